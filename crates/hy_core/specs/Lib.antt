@@ -1,0 +1,1 @@
+pub use Rattle.hy_terms.specs.Naming

@@ -1,0 +1,20 @@
+-- The number of a text is its place among the texts in the order in which they are met.
+use Rattle.std.specs.Prelude.{ℕ, suc, List, [], ◌∷◌, ◌++◌, length, Option, Some, None, if◌then◌else◌}
+use Rattle.std.specs.Str.{bytes_eq}
+
+abbrev pub one_on : Option ℕ → Option ℕ
+one_on None = None
+one_on (Some k) = Some (suc k)
+
+-- the place of a text in a table
+abbrev pub place_in : List (List ℕ) → List ℕ → Option ℕ
+place_in [] text = None
+place_in (x ∷ xs) text = if bytes_eq x text then Some 0 else one_on (place_in xs text)
+
+abbrev pub numbered : List (List ℕ) → List ℕ → Option ℕ → ℕ × List (List ℕ)
+numbered texts text (Some k) = (k, texts)
+numbered texts text None = (length texts, texts ++ text ∷ [])
+
+-- the number of a text, and the table after it
+unfoldable pub named : List (List ℕ) → List ℕ → ℕ × List (List ℕ)
+named texts text = numbered texts text (place_in texts text)

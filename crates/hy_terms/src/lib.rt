@@ -1,0 +1,10 @@
+//! Terms, the tables of atoms and words, and the texts of scalars.
+#![tactic(auto)]
+
+mod atoms;
+mod memory;
+mod term;
+
+pub use atoms::Atoms;
+pub use memory::Memory;
+pub use term::{Colour, Labelled, LabelledTerms, Term, Terms};
