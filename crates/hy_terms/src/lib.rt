@@ -5,6 +5,6 @@ mod atoms;
 mod memory;
 mod term;
 
-pub use atoms::Atoms;
+pub use atoms::{AtomFault, Atoms};
 pub use memory::Memory;
 pub use term::{Colour, Labelled, LabelledTerms, Term, Terms};
