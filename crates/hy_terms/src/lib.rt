@@ -4,7 +4,9 @@
 mod atoms;
 mod memory;
 mod term;
+mod words;
 
 pub use atoms::{AtomFault, Atoms};
 pub use memory::Memory;
 pub use term::{Colour, Labelled, LabelledTerms, Term, Terms};
+pub use words::Words;
