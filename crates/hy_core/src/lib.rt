@@ -1,6 +1,20 @@
 //! The syntax tree of a module, its grammar, and what programs mean.
 #![tactic(auto)]
 
+mod bif;
+mod class;
+mod end;
+mod info;
+mod limits;
+mod step;
+mod text;
 mod tree;
 
-pub use tree::{Expr, FunName, Function, Module};
+pub use bif::Bif;
+pub use class::Class;
+pub use end::{Cause, End};
+pub use info::{FunInfo, SiteInfo, SiteKind};
+pub use limits::Limits;
+pub use step::{Item, Step};
+pub use text::Text;
+pub use tree::{Clause, Expr, FunName, Function, Module, Pattern, Program};
