@@ -1,1 +1,13 @@
 pub use Rattle.hy_terms.specs.Naming
+pub mod BuiltIn
+pub mod Computation
+pub mod Evaluation
+pub mod Event
+pub mod Examples
+pub mod FullRun
+pub mod Machine
+pub mod Match
+pub mod Meaning
+pub mod Output
+pub mod Resolve
+pub mod Resolved

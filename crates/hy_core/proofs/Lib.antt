@@ -1,0 +1,4 @@
+pub mod Meanings
+pub mod Resolving
+pub mod Rules
+pub mod Runs
