@@ -7,7 +7,9 @@ mod end;
 mod info;
 mod limits;
 mod step;
+mod tables;
 mod text;
+mod token;
 mod tree;
 
 pub use bif::Bif;
@@ -16,5 +18,7 @@ pub use end::{Cause, End};
 pub use info::{FunInfo, SiteInfo, SiteKind};
 pub use limits::Limits;
 pub use step::{Item, Step};
+pub use tables::Tables;
 pub use text::Text;
+pub use token::{Class as ByteClass, Ending, Lexeme, Sign, Token, Word};
 pub use tree::{Clause, Expr, FunName, Function, Module, Pattern, Program};

@@ -1,0 +1,5 @@
+pub mod Faults
+pub mod FileWords
+pub mod MemorySink
+pub mod MemorySources
+pub mod Outside
