@@ -1,3 +1,4 @@
+pub mod AloneLemmas
 pub mod Meanings
 pub mod Resolving
 pub mod Rules

@@ -21,16 +21,16 @@ use Rattle.hy_core.specs.Resolved.{FunctionTree, Expression}
 use Rattle.hy_core.proofs.Resolving.{part_of-Int, part_of-Atom, part_of-Var, part_of-Let, part_of-Do, part_of-Call}
 use Rattle.hy_core.proofs.Rules.{evaluated_bind, evaluated_single, evaluated_one_argument, evaluated_two_arguments, then_same, then_same_one}
 
-module _ (program : List FunctionTree) (names : Names) (current pid : ℕ) where
-  abbrev ran : ℕ → Doing → List (Input Term) → Evaluated program names.atoms pid
-  ran = evaluated program names.atoms pid
+module _ (program : List FunctionTree) (atoms : List (List ℕ)) (names : Names) (current pid : ℕ) where
+  abbrev ran : ℕ → Doing → List (Input Term) → Evaluated program atoms pid
+  ran = evaluated program atoms pid
 
-  abbrev means : List FunName → Place → ℕ → Env → Expr → List (Input Term) → Evaluated program names.atoms pid
-  means = meaning program names current pid
+  abbrev means : List FunName → Place → ℕ → Env → Expr → List (Input Term) → Evaluated program atoms pid
+  means = meaning program atoms names current pid
 
   -- an expression as a part of a whole
-  abbrev part_means : List FunName → Place → ℕ → Env → List (Input Term) → Part → Evaluated program names.atoms pid
-  part_means locals place n env ins part = eval program names.atoms pid n env (part.make locals place).0 ins
+  abbrev part_means : List FunName → Place → ℕ → Env → List (Input Term) → Part → Evaluated program atoms pid
+  part_means locals place n env ins part = eval program atoms pid n env (part.make locals place).0 ins
 
   pub meaning-Int : (locals : List FunName) (place : Place) (n : ℕ) (env : Env) (v : ℤ) (ins : List (Input Term)) → means locals place n env (e.Int v) ins ≡ ended n ins (Values (term.Int v ∷ []))
   meaning-Int locals place n env v ins = ap (part_means locals place n env ins) (part_of-Int names current v)
@@ -56,15 +56,15 @@ module _ (program : List FunctionTree) (names : Names) (current pid : ℕ) where
       let v = resolved names current locals (inside place) value in
       let b = resolved names current locals (place_after names current locals (inside place) value) body in
       ap (part_means locals place n env ins) (part_of-Let names current (x ∷ []) value body)
-      ∙ evaluated_bind program names.atoms pid n (denote names.atoms pid v env) (λ ts. in_env (denote names.atoms pid b) (bind_variables (x ∷ []) ts env)) ins
-      ∙ then_same program names.atoms pid n (denote names.atoms pid v env) ins _ _ (one_bound (denote names.atoms pid b) x env)
+      ∙ evaluated_bind program atoms pid n (denote atoms pid v env) (λ ts. in_env (denote atoms pid b) (bind_variables (x ∷ []) ts env)) ins
+      ∙ then_same program atoms pid n (denote atoms pid v env) ins _ _ (one_bound (denote atoms pid b) x env)
 
   pub meaning-Do : (locals : List FunName) (place : Place) (n : ℕ) (env : Env) (first second : Expr) (ins : List (Input Term)) → means locals place n env (e.Do first second) ins ≡ then_run (means locals (inside place) n env first ins) (with_one (λ t m jns. means locals (place_after names current locals (inside place) first) m env second jns))
   meaning-Do locals place n env first second ins =
       let a = resolved names current locals (inside place) first in
       let b = resolved names current locals (place_after names current locals (inside place) first) second in
       ap (part_means locals place n env ins) (part_of-Do names current first second)
-      ∙ evaluated_single program names.atoms pid n (denote names.atoms pid a env) (λ t. denote names.atoms pid b env) ins
+      ∙ evaluated_single program atoms pid n (denote atoms pid a env) (λ t. denote atoms pid b env) ins
 
   -- the module and the name of a call that are atoms
   called_part : (m f : ℕ) (args : List Expr) → part_of names current (e.Call (e.Atom m) (e.Atom f) args) ≡ expr_step names current (layer.Call (expr_step names current (layer.Atom m)) (expr_step names current (layer.Atom f)) (map (part_of names current) args))
@@ -84,20 +84,20 @@ module _ (program : List FunctionTree) (names : Names) (current pid : ℕ) where
   answer_ended n ins (Raises class reason) = refl
 
   -- a call of `+`: both arguments from left to right, and then the answer
-  pub meaning-plus : (locals : List FunName) (place : Place) (n : ℕ) (env : Env) (m f : ℕ) (a b : Expr) (ins : List (Input Term)) → text_of names.atoms m ≡ codes "erlang" → text_of names.atoms f ≡ codes "+" → means locals place n env (e.Call (e.Atom m) (e.Atom f) (a ∷ b ∷ [])) ins ≡ then_run (means locals (first_argument place) n env a ins) (with_one (λ t m jns. then_run (means locals (place_after names current locals (first_argument place) a) m env b jns) (with_one (λ u l kns. ended l kns (answer_end (answer names.atoms pid Add (t ∷ u ∷ [])))))))
+  pub meaning-plus : (locals : List FunName) (place : Place) (n : ℕ) (env : Env) (m f : ℕ) (a b : Expr) (ins : List (Input Term)) → text_of names.atoms m ≡ codes "erlang" → text_of names.atoms f ≡ codes "+" → means locals place n env (e.Call (e.Atom m) (e.Atom f) (a ∷ b ∷ [])) ins ≡ then_run (means locals (first_argument place) n env a ins) (with_one (λ t m jns. then_run (means locals (place_after names current locals (first_argument place) a) m env b jns) (with_one (λ u l kns. ended l kns (answer_end (answer atoms pid Add (t ∷ u ∷ [])))))))
   meaning-plus locals place n env m f a b ins p q =
       let first = resolved names current locals (first_argument place) a in
       let second = resolved names current locals (place_after names current locals (first_argument place) a) b in
       ap (part_means locals place n env ins) (called_part m f (a ∷ b ∷ []))
-      ∙ ap (λ o. eval program names.atoms pid n env (named_call names current place.node m f o (map (part_of names current) (a ∷ b ∷ [])) locals (first_argument place)).0 ins) (erlang_operation_named m f 2 (codes "+") p q)
-      ∙ evaluated_two_arguments program names.atoms pid n first second env (act_on names.atoms pid (r.BuiltIn Add) env) ins
-      ∙ then_same_one program names.atoms pid n (denote names.atoms pid first env) ins _ _ (λ t l jns.
-      then_same_one program names.atoms pid l (denote names.atoms pid second env) jns _ _ (λ u k kns. answer_ended k kns (answer names.atoms pid Add (t ∷ u ∷ []))))
+      ∙ ap (λ o. eval program atoms pid n env (named_call names current place.node m f o (map (part_of names current) (a ∷ b ∷ [])) locals (first_argument place)).0 ins) (erlang_operation_named m f 2 (codes "+") p q)
+      ∙ evaluated_two_arguments program atoms pid n first second env (act_on atoms pid (r.BuiltIn Add) env) ins
+      ∙ then_same_one program atoms pid n (denote atoms pid first env) ins _ _ (λ t l jns.
+      then_same_one program atoms pid l (denote atoms pid second env) jns _ _ (λ u k kns. answer_ended k kns (answer atoms pid Add (t ∷ u ∷ []))))
 
   -- a call of `display`: the argument, and then the event, whose value is 'true'
   pub meaning-display : (locals : List FunName) (place : Place) (n : ℕ) (env : Env) (m f : ℕ) (a : Expr) (ins : List (Input Term)) → text_of names.atoms m ≡ codes "erlang" → text_of names.atoms f ≡ codes "display" → means locals place n env (e.Call (e.Atom m) (e.Atom f) (a ∷ [])) ins ≡ then_run (means locals (first_argument place) n env a ins) (with_one (λ t l jns. record { events = Printed t ∷ []; calls = l; inputs = jns; end = Values (truth true ∷ []) }))
   meaning-display locals place n env m f a ins p q =
       let first = resolved names current locals (first_argument place) a in
       ap (part_means locals place n env ins) (called_part m f (a ∷ []))
-      ∙ ap (λ o. eval program names.atoms pid n env (named_call names current place.node m f o (map (part_of names current) (a ∷ [])) locals (first_argument place)).0 ins) (erlang_operation_named m f 1 (codes "display") p q)
-      ∙ evaluated_one_argument program names.atoms pid n first env (act_on names.atoms pid (r.Display place.node) env) ins
+      ∙ ap (λ o. eval program atoms pid n env (named_call names current place.node m f o (map (part_of names current) (a ∷ [])) locals (first_argument place)).0 ins) (erlang_operation_named m f 1 (codes "display") p q)
+      ∙ evaluated_one_argument program atoms pid n first env (act_on atoms pid (r.Display place.node) env) ins

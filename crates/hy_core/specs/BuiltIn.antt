@@ -19,7 +19,10 @@ pub data Answer : Type 0 where
   Value : Term → Answer
   Raises : Class → Term → Answer
 
--- the atoms that each program has, by their numbers
+-- the atoms with which the table of each program begins: this project's own
+abbrev pub own_atoms : List (List ℕ)
+own_atoms =
+    codes "true" ∷ codes "false" ∷ codes "badarith" ∷ codes "badarg" ∷ codes "system_limit" ∷ codes "no_clause" ∷ codes "function_clause" ∷ []
 
 abbrev pub truth : Bool → Term
 truth true = Atom 0

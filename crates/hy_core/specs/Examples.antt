@@ -10,6 +10,7 @@ use Rattle.hy_core.specs.declared.end.End.TheVariants.{Ended}
 use Rattle.hy_core.specs.declared.step.Item.TheVariants as item
 use Rattle.hy_core.specs.declared.step.Step.{Step}
 use Rattle.hy_core.specs.declared.tree.FunName.{FunName}
+use Rattle.hy_core.specs.BuiltIn.{own_atoms}
 use Rattle.hy_core.specs.Computation.{Got, Lapsed, Born, Values, Raised, NeedsPid, Spent, Wrong}
 use Rattle.hy_core.specs.Evaluation.{eval}
 use Rattle.hy_core.specs.Event.{Sent, Spawned, Printed}
@@ -17,9 +18,6 @@ use Rattle.hy_core.specs.FullRun.{IsFullRun, after_run}
 use Rattle.hy_core.specs.Machine.{Process}
 use Rattle.hy_core.specs.Match.{Empty}
 use Rattle.hy_core.specs.Resolved.{Pattern, AnyTerm, TheInt, TheNil, TheList, NoPatterns, MorePatterns, BuiltIn, Local, Send, Spawn, Display, Never, Expression, Int, Atom, Variable, Tuple, Let, Do, Case, Letrec, Call, Receive, Expressions, NoExpressions, MoreExpressions, Clauses, NoClauses, MoreClauses, NoFunctions, MoreFunctions, FunctionTree}
-
-abbrev own_atoms : List (List ℕ)
-own_atoms = codes "true" ∷ codes "false" ∷ codes "badarith" ∷ codes "badarg" ∷ codes "system_limit" ∷ codes "no_clause" ∷ codes "function_clause" ∷ codes "a" ∷ codes "b" ∷ []
 
 abbrev none : List FunctionTree
 none = []

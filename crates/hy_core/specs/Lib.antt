@@ -1,4 +1,5 @@
 pub use Rattle.hy_terms.specs.Naming
+pub mod Alone
 pub mod BuiltIn
 pub mod Built
 pub mod Bytes

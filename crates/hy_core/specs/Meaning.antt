@@ -17,8 +17,9 @@ inside place = record { node = suc place.node; site = place.site }
 abbrev pub first_argument : Place → Place
 first_argument place = inside (inside (inside place))
 
--- the program's functions, the names of the program, the module in which the expression stands and the
--- process that evaluates it
-module _ (program : List FunctionTree) (names : Names) (current pid : ℕ) where
-  abbrev pub meaning : List FunName → Place → (calls : ℕ) → Env → Expr → List (Input Term) → Evaluated program names.atoms pid
-  meaning locals place calls env e inputs = eval program names.atoms pid calls env (resolved names current locals place e) inputs
+-- The program's functions, its table of atoms, the names by which its calls are resolved, the module in
+-- which the expression stands and the process that evaluates it. The names have the same table of atoms,
+-- unless no number of an atom in the trees is one of a term.
+module _ (program : List FunctionTree) (atoms : List (List ℕ)) (names : Names) (current pid : ℕ) where
+  abbrev pub meaning : List FunName → Place → (calls : ℕ) → Env → Expr → List (Input Term) → Evaluated program atoms pid
+  meaning locals place calls env e inputs = eval program atoms pid calls env (resolved names current locals place e) inputs
