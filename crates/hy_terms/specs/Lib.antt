@@ -1,3 +1,6 @@
 pub mod Naming
+pub mod Term
+pub mod TermOrder
+pub mod TermText
 pub mod Terms
 pub mod Texts

@@ -123,3 +123,42 @@ impl Atoms {
         self.texts.len() as u32
     }
 }
+
+#[cfg(test)]
+mod tests {
+    use super::*;
+    use std::test::Fail;
+
+    #[test]
+    fn numbers_texts(rt: HostRuntime) -> Result<(), Fail> {
+        let mut atoms = Atoms::new(rt.alloc());
+        assert_eq!(rt; atoms.intern(b"true")?, 0);
+        assert_eq!(rt; atoms.intern(b"")?, 1);
+        assert_eq!(rt; atoms.intern(b"true")?, 0);
+        assert_eq!(rt; atoms.len(), 2);
+        assert_eq!(rt; atoms.text(0), b"true".as_slice());
+        assert_eq!(rt; atoms.text(1), b"".as_slice());
+        Ok(())
+    }
+
+    // Also shows that look-up is fast enough for a full table.
+    #[test]
+    fn refuses_a_new_text_when_full(rt: HostRuntime) -> Result<(), Fail> {
+        let mut atoms = Atoms::new(rt.alloc());
+        for n in 0..1u32 << 20 {
+            atoms.intern(n.to_be_bytes().as_slice())?;
+        }
+        assert_eq!(rt; atoms.len(), 1 << 20);
+        assert_eq!(rt; atoms.intern(b"new"), Err(AtomFault::TooManyAtoms));
+        assert_eq!(rt; atoms.intern(7u32.to_be_bytes().as_slice()), Ok(7));
+        assert_eq!(rt; atoms.len(), 1 << 20);
+        Ok(())
+    }
+
+    #[test]
+    fn faults_print_as_their_names(rt: HostRuntime) -> Result<(), Fail> {
+        let text = format!(in rt.alloc(); "{} {}", AtomFault::TooManyAtoms, AtomFault::Memory)?;
+        assert_eq!(rt; text.as_str(), "TooManyAtoms Memory");
+        Ok(())
+    }
+}

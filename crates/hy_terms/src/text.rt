@@ -84,3 +84,24 @@ fn octal_escape(byte: u8) -> [u8; 4]
         b'0' + byte % 8,
     ]
 }
+
+#[cfg(test)]
+mod tests {
+    use super::*;
+    use std::test::Fail;
+
+    #[test]
+    fn texts_of_scalars(rt: HostRuntime) -> Result<(), Fail> {
+        let mut out = Vec::new(rt.alloc());
+        push_int(&mut out, 0)?;
+        push_int(&mut out, -576460752303423488)?;
+        push_pid(&mut out, 12)?;
+        push_atom(&mut out, b"it's a \\ \"x\"~\x7f\n\xff\x00")?;
+        push_quoted(&mut out, b'"', b"it's \"x\"")?;
+        assert_eq!(rt;
+            out.as_slice(),
+            b"0-576460752303423488<0.12.0>'it\\'s a \\\\ \"x\"~\\177\\012\\377\\000'\"it's \\\"x\\\"\"".as_slice()
+        );
+        Ok(())
+    }
+}

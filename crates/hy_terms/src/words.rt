@@ -56,3 +56,22 @@ impl Words {
         self.words[place as usize].as_str()
     }
 }
+
+#[cfg(test)]
+mod tests {
+    use super::*;
+    use std::test::Fail;
+
+    #[test]
+    fn keeps_words_in_order(rt: HostRuntime) -> Result<(), Fail> {
+        let mut words = Words::new(rt.alloc());
+        words.push("--mode")?;
+        words.push("")?;
+        words.push("--mode")?;
+        assert_eq!(rt; words.len(), 3);
+        assert_eq!(rt; words.word(0), "--mode");
+        assert_eq!(rt; words.word(1), "");
+        assert_eq!(rt; words.word(2), "--mode");
+        Ok(())
+    }
+}

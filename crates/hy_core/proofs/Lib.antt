@@ -1,0 +1,5 @@
+pub mod AloneLemmas
+pub mod Meanings
+pub mod Resolving
+pub mod Rules
+pub mod Runs
