@@ -1,5 +1,12 @@
-ghost use Rattle.std.specs.Prelude.{ℕ, List, [], map};
+ghost use Rattle.std.specs.Prelude.{◌≡◌, ℕ, List, [], ◌∷◌, ◌++◌, Contains, IfOk, OnOk, Some};
 ghost use Rattle.hy_core.specs.Built.{IsBuilt};
+ghost use Rattle.hy_core.specs.BuiltIn.{answer};
+ghost use Rattle.hy_core.specs.Evaluation.{answer_end};
+ghost use Rattle.hy_core.specs.Match.{lookup};
+ghost use Rattle.hy_core.specs.declared.bif.Bif.TheVariants.{Add};
+ghost use Rattle.hybrid_run.specs.declared.value.Ending.TheVariants.{Gives};
+ghost use Rattle.hybrid_run.specs.declared.value.Value.TheVariants.{True};
+ghost use Rattle.hybrid_run.specs.Arithmetic.{term_of, outcome_of, env_of, variables_of, Evaluates, EvaluatesUnder, EvaluatesCall, IsCall};
 
 use crate::value::{Ending, Reason, Value};
 use hy_core::Expr;
@@ -23,7 +30,11 @@ pub fn evaluate(
     expr: &Expr,
     env: &mut Vec<Binding>,
     printed: &mut Vec<Value>,
-) -> Result<Ending, Memory> {
+) -> Result<Ending, Memory>
+    requires { (atoms : List (List ℕ)) × IsBuilt atoms (variables_of env.old.items) expr.now }
+    ensures evaluates { IfOk result (λ ending. Evaluates expr.now env.old.items printed.old.items printed.new.items ending) }
+    ensures env { OnOk result (env.new.items ≡ env.old.items) }
+{
     match expr {
         Expr::Int(n) => Ok(Ending::Gives(Value::Int(*n))),
         Expr::Var(var) => Ok(Ending::Gives(value_of(env.as_slice(), *var))),
@@ -48,7 +59,11 @@ fn evaluate_under(
     body: &Expr,
     env: &mut Vec<Binding>,
     printed: &mut Vec<Value>,
-) -> Result<Ending, Memory> {
+) -> Result<Ending, Memory>
+    requires { (atoms : List (List ℕ)) × (var : ℕ) × (vars.now ≡ var ∷ []) × IsBuilt atoms (var ∷ variables_of env.old.items) body.now }
+    ensures evaluates { IfOk result (λ ending. EvaluatesUnder vars.now value body.now env.old.items printed.old.items printed.new.items ending) }
+    ensures env { OnOk result (env.new.items ≡ env.old.items) }
+{
     let [var] = vars else { unreachable!() };
     env.push(Binding { var: *var, value })?;
     let ending = evaluate(body, env, printed);
@@ -62,7 +77,11 @@ fn evaluate_call(
     args: &[Expr],
     env: &mut Vec<Binding>,
     printed: &mut Vec<Value>,
-) -> Result<Ending, Memory> {
+) -> Result<Ending, Memory>
+    requires { (atoms : List (List ℕ)) × IsCall atoms (variables_of env.old.items) args.now }
+    ensures evaluates { IfOk result (λ ending. EvaluatesCall args.now env.old.items printed.old.items printed.new.items ending) }
+    ensures env { OnOk result (env.new.items ≡ env.old.items) }
+{
     match args {
         [shown] => match evaluate(shown, env, printed)? {
             Ending::Gives(value) => display(value, printed),
@@ -79,12 +98,16 @@ fn evaluate_call(
     }
 }
 
-fn display(value: Value, printed: &mut Vec<Value>) -> Result<Ending, Memory> {
+fn display(value: Value, printed: &mut Vec<Value>) -> Result<Ending, Memory>
+    ensures { IfOk result (λ ending. (ending ≡ Gives True) × (printed.new.items ≡ printed.old.items ++ value ∷ [])) }
+{
     printed.push(value)?;
     Ok(Ending::Gives(Value::True))
 }
 
-fn sum(left: Value, right: Value) -> Ending {
+fn sum(left: Value, right: Value) -> Ending
+    ensures { (atoms : List (List ℕ)) (pid : ℕ) → outcome_of result ≡ answer_end (answer atoms pid Add (term_of left ∷ term_of right ∷ [])) }
+{
     match (left, right) {
         (Value::Int(left), Value::Int(right)) => match left.checked_add(right) {
             Some(n) if LEAST <= n && n <= GREATEST => Ending::Gives(Value::Int(n)),
@@ -95,7 +118,10 @@ fn sum(left: Value, right: Value) -> Ending {
 }
 
 /// The value of the innermost binding of a variable.
-fn value_of(env: &[Binding], var: u32) -> Value {
+fn value_of(env: &[Binding], var: u32) -> Value
+    requires { Contains (variables_of env.now) var }
+    ensures { lookup var (env_of env.now) ≡ Some (term_of result) }
+{
     match env {
         [outer @ .., last] => {
             if last.var == var {
