@@ -1,2 +1,6 @@
 mod KeyLemmas
+pub mod LabelLemmas
 pub mod NamingLemmas
+pub mod OrderLemmas
+pub mod TermLemmas
+pub mod TextLemmas

@@ -55,9 +55,12 @@ printed_step atoms (layer.Cons head tail) = record {
 }
 printed_step atoms (layer.Tuple parts) = printed_alone (codes "{" ++ join_with_byte 44 (map (λ part. part.whole) parts) ++ codes "}")
 
+unfoldable pub printed : List (List ℕ) → Term → Printed
+printed atoms = fold-Term Printed (printed_step atoms)
+
 -- numbers in decimal, quoted atoms, pids, `[]`, `{a,b}`, `[a,b]` and `[a,b|t]`, without spaces
-unfoldable pub term_text : List (List ℕ) → Term → List ℕ
-term_text atoms term = (fold-Term Printed (printed_step atoms) term).whole
+abbrev pub term_text : List (List ℕ) → Term → List ℕ
+term_text atoms term = (printed atoms term).whole
 
 -- what a term prints as: its text and a line feed
 abbrev pub printed_text : List (List ℕ) → Term → List ℕ
