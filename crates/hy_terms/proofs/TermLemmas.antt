@@ -4,8 +4,7 @@ use Rattle.std.proofs.lemmas.List.{length-map}
 use Rattle.std.proofs.lemmas.List.Sums.{sum_by-cons}
 use Rattle.std.specs.Prelude.{sum}
 use Rattle.hy_terms.specs.Terms.{erase, erase_step, shared, shared_step, private_words, private_words_step, if_private}
-use Rattle.hy_terms.specs.declared.term.Term.{Term}
-use Rattle.hy_terms.specs.declared.term.Term.TheVariants as t
+use Rattle.hy_terms.specs.Term.{Term, Int, Atom, Pid, Nil, Cons, Tuple, terms_of}
 use Rattle.hy_terms.specs.declared.term.Labelled.{Labelled}
 use Rattle.hy_terms.specs.declared.term.Labelled.TheVariants as l
 use Rattle.hy_terms.specs.declared.term.Labelled.TheOpen as labelled
@@ -16,23 +15,23 @@ use Rattle.hy_terms.specs.declared.term.Colour.TheVariants.{Private, Shared}
 
 -- ---- one equation for each form
 
-pub erase-Int : (n : _) → erase (l.Int n) ≡ t.Int n
+pub erase-Int : (n : _) → erase (l.Int n) ≡ Int n
 erase-Int n = ap erase (sym (l.rolls-Int n)) ∙ fold-roll-Labelled Term erase_step (labelled.Int n)
 
-pub erase-Atom : (atom : ℕ) → erase (l.Atom atom) ≡ t.Atom atom
+pub erase-Atom : (atom : ℕ) → erase (l.Atom atom) ≡ Atom atom
 erase-Atom atom = ap erase (sym (l.rolls-Atom atom)) ∙ fold-roll-Labelled Term erase_step (labelled.Atom atom)
 
-pub erase-Pid : (pid : ℕ) → erase (l.Pid pid) ≡ t.Pid pid
+pub erase-Pid : (pid : ℕ) → erase (l.Pid pid) ≡ Pid pid
 erase-Pid pid = ap erase (sym (l.rolls-Pid pid)) ∙ fold-roll-Labelled Term erase_step (labelled.Pid pid)
 
-pub erase-Nil : erase l.Nil ≡ t.Nil
+pub erase-Nil : erase l.Nil ≡ Nil
 erase-Nil = ap erase (sym l.rolls-Nil) ∙ fold-roll-Labelled Term erase_step labelled.Nil
 
-pub erase-Cons : (site : ℕ) (colour : Colour) (head tail : Labelled) → erase (l.Cons site colour head tail) ≡ t.Cons (erase head) (erase tail)
+pub erase-Cons : (site : ℕ) (colour : Colour) (head tail : Labelled) → erase (l.Cons site colour head tail) ≡ Cons (erase head) (erase tail)
 erase-Cons site colour head tail =
     ap erase (sym (l.rolls-Cons site colour head tail)) ∙ fold-roll-Labelled Term erase_step (labelled.Cons site colour head tail)
 
-pub erase-Tuple : (site : ℕ) (colour : Colour) (parts : List Labelled) → erase (l.Tuple site colour parts) ≡ t.Tuple (map erase parts)
+pub erase-Tuple : (site : ℕ) (colour : Colour) (parts : List Labelled) → erase (l.Tuple site colour parts) ≡ Tuple (terms_of (map erase parts))
 erase-Tuple site colour parts =
     ap erase (sym (l.rolls-Tuple site colour parts)) ∙ fold-roll-Labelled Term erase_step (labelled.Tuple site colour parts)
 
@@ -108,11 +107,11 @@ erases_at (labelled.Pid pid) = ap erase (ap shared (l.rolls-Pid pid) ∙ shared-
 erases_at labelled.Nil = ap erase (ap shared l.rolls-Nil ∙ shared-Nil ∙ sym l.rolls-Nil)
 erases_at (labelled.Cons site colour head tail) =
     rw (l.rolls-Cons site colour head.0 tail.0, shared-Cons site colour head.0 tail.0, erase-Cons site Shared (shared head.0) (shared tail.0), erase-Cons site colour head.0 tail.0)
-    (λ i. t.Cons (head.1 i) (tail.1 i))
+    (λ i. Cons (head.1 i) (tail.1 i))
 erases_at (labelled.Tuple site colour parts) =
     let these = map (λ e. e.0) parts in
     rw (l.rolls-Tuple site colour these, shared-Tuple site colour these, erase-Tuple site Shared (map shared these), erase-Tuple site colour these)
-    (ap t.Tuple (erases_each parts))
+    (ap (λ (ts : List Term). Tuple (terms_of ts)) (erases_each parts))
 
 -- sharing changes labels alone
 pub erase-shared : (term : Labelled) → erase (shared term) ≡ erase term

@@ -2,12 +2,19 @@
 ghost use Rattle.std.specs.Prelude.{◌≡◌, ◌↔◌, ℕ, List, IsTrue, codes};
 ghost use Rattle.std.specs.Cmp.{IsTotalOrder};
 ghost use Rattle.std.specs.declared.cmp.Ordering.TheVariants.{Equal};
-ghost use Rattle.hy_terms.specs.Examples.{some_atoms, mixed_tuple, ascending_terms, is_ascending};
-ghost use Rattle.hy_terms.specs.Order.{compare};
+ghost use Rattle.hy_terms.specs.Examples.{some_atoms, mixed_tuple, ascending_terms, is_ascending, private_tuple};
+ghost use Rattle.hy_terms.specs.TermOrder.{compare};
 ghost use Rattle.hy_terms.specs.Terms.{erase, shared, private_words, IsShared, IsLabelled};
-ghost use Rattle.hy_terms.specs.Texts.{term_text};
+ghost use Rattle.hy_terms.specs.TermText.{term_text};
 ghost use Rattle.hy_terms.specs.declared.term.Labelled.{Labelled};
-ghost use Rattle.hy_terms.specs.declared.term.Term.{Term};
+ghost use Rattle.hy_terms.specs.Term.{Term, term_of};
+ghost use Rattle.hy_terms.specs.declared.term.Term.{Term as DeclaredTerm};
+
+/// The terms that definitions compute with are the declared ones.
+pub fn terms_are_declared()
+    ensures each { (term : Term) → (x : DeclaredTerm) × (term_of x ≡ term) }
+    ensures once { (x y : DeclaredTerm) → term_of x ≡ term_of y → x ≡ y }
+{}
 
 /// The order of terms is total, over each table of atoms.
 pub fn order_is_total()
@@ -36,6 +43,11 @@ pub fn sharing()
     ensures same { (term : Labelled) → private_words term ≡ 0 → shared term ≡ term }
     ensures all_shared { (term : Labelled) → IsShared (shared term) }
     ensures labelled { (term : Labelled) → IsLabelled (shared term) }
+{}
+
+/// Private words are counted for each occurrence.
+pub fn private_words_count()
+    ensures { private_words private_tuple ≡ 10 }
 {}
 
 /// Below a shared node nothing is private.

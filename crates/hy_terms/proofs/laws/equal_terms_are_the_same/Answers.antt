@@ -1,6 +1,6 @@
 use Rattle.std.proofs.Common.{◌≡◌, subst}
 use Rattle.std.specs.declared.cmp.Ordering.TheVariants.{Equal}
-use Rattle.hy_terms.specs.Order.{compare}
+use Rattle.hy_terms.specs.TermOrder.{compare}
 use Rattle.hy_terms.proofs.OrderLemmas.{same, compare-itself}
 use Rattle.hy_terms.proofs.laws.equal_terms_are_the_same.Goals as goal
 
