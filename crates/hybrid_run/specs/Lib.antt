@@ -1,0 +1,6 @@
+pub mod Arithmetic
+pub mod Faults
+pub mod FileWords
+pub mod MemorySink
+pub mod MemorySources
+pub mod Outside

@@ -1,0 +1,11 @@
+//! The top call, and what it meets outside.
+#![tactic(auto)]
+
+mod evaluate;
+mod fault;
+pub mod outside;
+mod value;
+mod words;
+
+pub use fault::{TopFault, fault_text};
+pub use words::files;
