@@ -6,8 +6,8 @@ use Rattle.hy_core.specs.Tokens.{keyword, sign_of, IsBody, close, plain, IsToken
 use Rattle.core_reader.specs.Scan.{Step, lexeme, behind, begun, after_sign, worded, in_quotes, stepped, worded_last, ended, scan}
 use Rattle.hy_core.specs.declared.token.Word.{Word}
 use Rattle.hy_core.specs.declared.token.Word.TheVariants as w
-use Rattle.hy_core.specs.declared.token.Class.{Class}
-use Rattle.hy_core.specs.declared.token.Class.TheVariants as c
+use Rattle.hy_core.specs.declared.token.ByteClass.{ByteClass}
+use Rattle.hy_core.specs.declared.token.ByteClass.TheVariants as c
 use Rattle.hy_core.specs.declared.token.Sign.{Sign}
 use Rattle.hy_core.specs.declared.token.Sign.TheVariants as g
 use Rattle.hy_core.specs.declared.token.Token.{Token}
@@ -21,7 +21,7 @@ use Rattle.core_reader.specs.declared.scan.State.TheVariants as s
 -- ---- two ways to cut a text after a run
 
 -- a run and what stops it stand once in a text
-pub same_run : (p : Class → Bool) (a b x y : List ℕ) → a ++ x ≡ b ++ y → Pass p a → Stops p x → Pass p b → Stops p y → (a ≡ b) × (x ≡ y)
+pub same_run : (p : ByteClass → Bool) (a b x y : List ℕ) → a ++ x ≡ b ++ y → Pass p a → Stops p x → Pass p b → Stops p y → (a ≡ b) × (x ≡ y)
 same_run p [] [] x y h pa sx pb sy = (refl, h)
 same_run p [] (k ∷ b) x y h pa sx pb sy = absurd (let stop : p (class_of k) ≡ false = subst (λ (u : List ℕ). Stops p u) h sx in cc (stop, pb.0))
 same_run p (k ∷ a) [] x y h pa sx pb sy = absurd (let stop : p (class_of k) ≡ false = subst (λ (u : List ℕ). Stops p u) (sym h) sy in cc (stop, pa.0))
@@ -62,7 +62,7 @@ no_body_past (a ∷ x) b bs rest _ y ps st h (plain {bs = front} p n m d) = no_b
 -- ---- where no token stands
 
 -- the classes that begin a token
-abbrev pub Begins : Class → Type 0
+abbrev pub Begins : ByteClass → Type 0
 Begins c.Digit = Unit {0}
 Begins c.Lower = Unit {0}
 Begins c.Capital = Unit {0}
@@ -72,7 +72,7 @@ Begins c.Minus = Unit {0}
 Begins (c.Mark k) = Unit {0}
 Begins _ = ⊥
 
-sign_begins : (k : Class) (sign : Sign) → sign_of k ≡ Some sign → Begins k
+sign_begins : (k : ByteClass) (sign : Sign) → sign_of k ≡ Some sign → Begins k
 sign_begins c.Plus sign h = tt
 sign_begins c.Minus sign h = tt
 sign_begins _ sign h = absurd cc
@@ -233,7 +233,7 @@ ended_means (s.Failed m) fine = (refl, refl)
 
 -- ---- one byte
 
-begun_fine : (b : ℕ) (bs : List ℕ) (k : Class) → class_of b ≡ k → Fine (begun (length (b ∷ bs)) b k).0 bs
+begun_fine : (b : ℕ) (bs : List ℕ) (k : ByteClass) → class_of b ≡ k → Fine (begun (length (b ∷ bs)) b k).0 bs
 begun_fine b bs c.Space is = tt
 begun_fine b bs c.Digit is = (is, tt, omega arith)
 begun_fine b bs c.Plus is = refl
@@ -246,11 +246,11 @@ begun_fine b bs c.Backslash is = tt
 begun_fine b bs c.At is = tt
 begun_fine b bs c.Other is = tt
 
-begun_bad : (b : ℕ) (bs : List ℕ) (k : Class) (ls : List Lexeme) (end : Ending) → class_of b ≡ k → (Begins k → ⊥) → (k ≡ c.Quote → ⊥) → (k ≡ c.Space → ⊥) → (ls ≡ []) × (end ≡ e.Bad (length (b ∷ bs))) → Lexes (b ∷ bs) ls end
+begun_bad : (b : ℕ) (bs : List ℕ) (k : ByteClass) (ls : List Lexeme) (end : Ending) → class_of b ≡ k → (Begins k → ⊥) → (k ≡ c.Quote → ⊥) → (k ≡ c.Space → ⊥) → (ls ≡ []) × (end ≡ e.Bad (length (b ∷ bs))) → Lexes (b ∷ bs) ls end
 begun_bad b bs k ls end is none quote gap h =
     no_more (length (b ∷ bs)) (b ∷ bs) ls end (bad_at (length (b ∷ bs)) b bs refl (no_token_other b bs (λ j. none (subst Begins is j))) (λ j. quote (sym is ∙ j)) (λ j. gap (sym is ∙ j))) h
 
-begun_means : (b : ℕ) (bs : List ℕ) (k : Class) (ls : List Lexeme) (end : Ending) → class_of b ≡ k → Means (begun (length (b ∷ bs)) b k).0 bs ls end → Lexes (b ∷ bs) ((begun (length (b ∷ bs)) b k).1 ++ ls) end
+begun_means : (b : ℕ) (bs : List ℕ) (k : ByteClass) (ls : List Lexeme) (end : Ending) → class_of b ≡ k → Means (begun (length (b ∷ bs)) b k).0 bs ls end → Lexes (b ∷ bs) ((begun (length (b ∷ bs)) b k).1 ++ ls) end
 begun_means b bs c.Space ls end is h = space is h
 begun_means b bs c.Digit ls end is h = h
 begun_means b bs c.Plus ls end is h = h b (ap sign_of is)
@@ -263,7 +263,7 @@ begun_means b bs c.Backslash ls end is h = begun_bad b bs c.Backslash ls end is 
 begun_means b bs c.At ls end is h = begun_bad b bs c.At ls end is (λ j. j) (λ j. cc) (λ j. cc) h
 begun_means b bs c.Other ls end is h = begun_bad b bs c.Other ls end is (λ j. j) (λ j. cc) (λ j. cc) h
 
-pass_push : (p : Class → Bool) (ds : List ℕ) (b : ℕ) → Pass p ds → p (class_of b) ≡ true → Pass p (ds ++ b ∷ [])
+pass_push : (p : ByteClass → Bool) (ds : List ℕ) (b : ℕ) → Pass p ds → p (class_of b) ≡ true → Pass p (ds ++ b ∷ [])
 pass_push p [] b ps is = (is, tt)
 pass_push p (d ∷ ds) b ps is = (ps.0, pass_push p ds b ps.1 is)
 
@@ -279,12 +279,12 @@ moved_byte ds b bs = append_assoc ds (b ∷ []) bs
 abbrev Owes : State → ℕ → List ℕ → Step → Type 0
 Owes state b bs r = Fine r.0 bs × ((ls : List Lexeme) (end : Ending) → Means r.0 bs ls end → Means state (b ∷ bs) (r.1 ++ ls) end)
 
-minus_class : (k : Class) → sign_of k ≡ Some g.Minus → k ≡ c.Minus
+minus_class : (k : ByteClass) → sign_of k ≡ Some g.Minus → k ≡ c.Minus
 minus_class c.Minus is = refl
 minus_class _ is = absurd cc
 
 -- no byte that is neither a digit nor > may stand behind a sign
-no_signs : (sign : Sign) (b : ℕ) (bs : List ℕ) (k : Class) → class_of b ≡ k → (k ≡ c.Digit → ⊥) → (sign ≡ g.Minus → k ≡ c.Mark w.Greater → ⊥) → Signs sign (b ∷ bs) → ⊥
+no_signs : (sign : Sign) (b : ℕ) (bs : List ℕ) (k : ByteClass) → class_of b ≡ k → (k ≡ c.Digit → ⊥) → (sign ≡ g.Minus → k ≡ c.Mark w.Greater → ⊥) → Signs sign (b ∷ bs) → ⊥
 no_signs g.Absent b bs k is d m h = d (sym is ∙ h)
 no_signs g.Plus b bs k is d m h = d (sym is ∙ h)
 no_signs g.Minus b bs k is d m (inl h) = d (sym is ∙ h)
@@ -294,7 +294,7 @@ sign_failed : (m : ℕ) (sign : Sign) (b : ℕ) (bs : List ℕ) → m ≡ suc (l
 sign_failed m sign b bs fine none =
     (tt, λ ls end h. λ a is. no_more m (a ∷ b ∷ bs) ls end (bad_at m a (b ∷ bs) fine (no_token_sign a sign (b ∷ bs) is none) (sign_no_quote a sign is) (sign_no_space a sign is)) h)
 
-in_sign : (m : ℕ) (sign : Sign) (b : ℕ) (bs : List ℕ) (k : Class) → class_of b ≡ k → Fine (s.Signed m sign) (b ∷ bs) → Owes (s.Signed m sign) b bs (after_sign m sign b k)
+in_sign : (m : ℕ) (sign : Sign) (b : ℕ) (bs : List ℕ) (k : ByteClass) → class_of b ≡ k → Fine (s.Signed m sign) (b ∷ bs) → Owes (s.Signed m sign) b bs (after_sign m sign b k)
 in_sign m g.Absent b bs k is fine = absurd fine
 in_sign m g.Plus b bs c.Digit is fine = ((is, tt, omega (arith, fine)), λ ls end h. h)
 in_sign m g.Plus b bs _ is fine = sign_failed m g.Plus b bs fine (no_signs g.Plus b bs _ is (λ j. cc) (λ i j. cc))
@@ -350,7 +350,7 @@ atom_failed m b x bs st fine = (
       no_more m (q ∷ (x ++ b ∷ bs)) ls end (subst (λ (n : ℕ). Lexes (q ∷ (x ++ b ∷ bs)) [] (e.Bad n)) (sym fine.1) bad) h,
 )
 
-in_atom : (m b : ℕ) (x bs : List ℕ) (k : Class) (v : Bool) → class_of b ≡ k → is_printable b ≡ v → Fine (s.Atom m x) (b ∷ bs) → Owes (s.Atom m x) b bs (in_quotes m b x k v)
+in_atom : (m b : ℕ) (x bs : List ℕ) (k : ByteClass) (v : Bool) → class_of b ≡ k → is_printable b ≡ v → Fine (s.Atom m x) (b ∷ bs) → Owes (s.Atom m x) b bs (in_quotes m b x k v)
 in_atom m b x bs c.Quote v k is fine = (
   tt,
   λ ls end h. λ q kq.

@@ -6,8 +6,8 @@ use Rattle.hy_core.specs.Tokens.{keyword, sign_of, IsBody, close, plain, IsToken
 use Rattle.core_reader.specs.Scan.{lexeme, begun, in_quotes, scan}
 use Rattle.core_reader.proofs.Scanned.{scan_lexes}
 use Rattle.hy_core.specs.declared.token.Word.{Word}
-use Rattle.hy_core.specs.declared.token.Class.{Class}
-use Rattle.hy_core.specs.declared.token.Class.TheVariants as c
+use Rattle.hy_core.specs.declared.token.ByteClass.{ByteClass}
+use Rattle.hy_core.specs.declared.token.ByteClass.TheVariants as c
 use Rattle.hy_core.specs.declared.token.Sign.{Sign}
 use Rattle.hy_core.specs.declared.token.Sign.TheVariants as g
 use Rattle.hy_core.specs.declared.token.Token.{Token}
@@ -44,7 +44,7 @@ run_word [] [] xs m k p st is = let here : keyword xs ≡ Some k = ap keyword (s
 run_word [] (b ∷ bs) xs m k p st is = let here : keyword xs ≡ Some k = ap keyword (sym (append-nil xs)) ∙ is in rw (st, here) refl
 run_word (l ∷ ls) rest xs m k p st is = rw (p.0) (run_word ls rest (xs ++ l ∷ []) m k p.1 st (ap keyword (append_assoc xs (l ∷ []) ls) ∙ is))
 
-quoted : (m b : ℕ) (x : List ℕ) (k : Class) → is_printable b ≡ true → (k ≡ c.Quote → ⊥) → (k ≡ c.Backslash → ⊥) → in_quotes m b x k (is_printable b) ≡ (s.Atom m (x ++ b ∷ []), [])
+quoted : (m b : ℕ) (x : List ℕ) (k : ByteClass) → is_printable b ≡ true → (k ≡ c.Quote → ⊥) → (k ≡ c.Backslash → ⊥) → in_quotes m b x k (is_printable b) ≡ (s.Atom m (x ++ b ∷ []), [])
 quoted m b x c.Quote p q r = absurd (q refl)
 quoted m b x c.Backslash p q r = absurd (r refl)
 quoted m b x _ p q r = rw p refl
@@ -58,7 +58,7 @@ run_atom _ _ rest x m (plain {b = b} {bs = bs} {x = y} p q r d) =
 
 -- ---- a token
 
-sign_begun : (n b : ℕ) (k : Class) (sign : Sign) → sign_of k ≡ Some sign → begun n b k ≡ (s.Signed n sign, [])
+sign_begun : (n b : ℕ) (k : ByteClass) (sign : Sign) → sign_of k ≡ Some sign → begun n b k ≡ (s.Signed n sign, [])
 sign_begun n b c.Plus sign is = let same : g.Plus ≡ sign = cc in ap (λ (u : Sign). (s.Signed n u, [])) same
 sign_begun n b c.Minus sign is = let same : g.Minus ≡ sign = cc in ap (λ (u : Sign). (s.Signed n u, [])) same
 sign_begun n b _ sign is = absurd cc

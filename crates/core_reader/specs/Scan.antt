@@ -4,8 +4,8 @@ use Rattle.hy_core.specs.Bytes.{class_of, is_printable, is_digit, is_lower, is_v
 use Rattle.hy_core.specs.Tokens.{keyword}
 use Rattle.hy_core.specs.declared.token.Word.{Word}
 use Rattle.hy_core.specs.declared.token.Word.TheVariants as w
-use Rattle.hy_core.specs.declared.token.Class.{Class}
-use Rattle.hy_core.specs.declared.token.Class.TheVariants as c
+use Rattle.hy_core.specs.declared.token.ByteClass.{ByteClass}
+use Rattle.hy_core.specs.declared.token.ByteClass.TheVariants as c
 use Rattle.hy_core.specs.declared.token.Sign.{Sign}
 use Rattle.hy_core.specs.declared.token.Sign.TheVariants as g
 use Rattle.hy_core.specs.declared.token.Token.{Token}
@@ -28,7 +28,7 @@ abbrev pub behind : ℕ → Token → Step → Step
 behind m k next = (next.0, lexeme m k ∷ next.1)
 
 -- a byte behind a token, with n bytes from it on
-abbrev pub begun : ℕ → ℕ → Class → Step
+abbrev pub begun : ℕ → ℕ → ByteClass → Step
 begun n b c.Space = (s.Gap, [])
 begun n b c.Digit = (s.Integer n g.Absent (b ∷ []), [])
 begun n b c.Plus = (s.Signed n g.Plus, [])
@@ -40,7 +40,7 @@ begun n b (c.Mark k) = (s.Gap, lexeme n (t.Word k) ∷ [])
 begun n b _ = (s.Failed n, [])
 
 -- a byte behind a sign
-abbrev pub after_sign : ℕ → Sign → ℕ → Class → Step
+abbrev pub after_sign : ℕ → Sign → ℕ → ByteClass → Step
 after_sign m sign b c.Digit = (s.Integer m sign (b ∷ []), [])
 after_sign m g.Minus b (c.Mark w.Greater) = (s.Gap, lexeme m (t.Word w.Arrow) ∷ [])
 after_sign m sign b _ = (s.Failed m, [])
@@ -50,7 +50,7 @@ abbrev pub worded : ℕ → Option Word → Step → Step
 worded m None next = (s.Failed m, [])
 worded m (Some k) next = behind m (t.Word k) next
 
-abbrev pub in_quotes : ℕ → ℕ → List ℕ → Class → Bool → Step
+abbrev pub in_quotes : ℕ → ℕ → List ℕ → ByteClass → Bool → Step
 in_quotes m b x c.Quote p = (s.Gap, lexeme m (t.Atom x) ∷ [])
 in_quotes m b x c.Backslash p = (s.Failed m, [])
 in_quotes m b x _ true = (s.Atom m (x ++ b ∷ []), [])

@@ -5,7 +5,7 @@ ghost use Rattle.core_reader.specs.Scan.{begun, stepped, ended, Steps, EndsAs};
 ghost use Rattle.hy_core.specs.declared.token.Ending.TheVariants.{Clean};
 ghost use Rattle.core_reader.specs.declared.scan.State.TheVariants.{Signed, Integer, Variable, Word as InWord, Atom};
 
-use hy_core::{Class, Ending, Lexeme, Sign, Token, Word};
+use hy_core::{ByteClass, Ending, Lexeme, Sign, Token, Word};
 use sqlite_items::Items;
 use std::alloc::{AllocError, Global};
 
@@ -48,29 +48,29 @@ fn mark(b: u8) -> Option<Word>
 }
 
 #[tactic(auto, unfolding(hy_core::specs::Bytes::plain_class))]
-fn class_of_plain(b: u8) -> Class
+fn class_of_plain(b: u8) -> ByteClass
     ensures { result ≡ plain_class b }
 {
     match b {
-        b' ' | 9..=13 => Class::Space,
-        b'0'..=b'9' => Class::Digit,
-        b'a'..=b'z' => Class::Lower,
-        b'_' | b'A'..=b'Z' => Class::Capital,
-        b'\'' => Class::Quote,
-        b'\\' => Class::Backslash,
-        b'@' => Class::At,
-        b'+' => Class::Plus,
-        b'-' => Class::Minus,
-        _ => Class::Other,
+        b' ' | 9..=13 => ByteClass::Space,
+        b'0'..=b'9' => ByteClass::Digit,
+        b'a'..=b'z' => ByteClass::Lower,
+        b'_' | b'A'..=b'Z' => ByteClass::Capital,
+        b'\'' => ByteClass::Quote,
+        b'\\' => ByteClass::Backslash,
+        b'@' => ByteClass::At,
+        b'+' => ByteClass::Plus,
+        b'-' => ByteClass::Minus,
+        _ => ByteClass::Other,
     }
 }
 
 #[tactic(auto, unfolding(hy_core::specs::Bytes::class_of))]
-fn class(b: u8) -> Class
+fn class(b: u8) -> ByteClass
     ensures { result ≡ class_of b }
 {
     match mark(b) {
-        Some(word) => Class::Mark(word),
+        Some(word) => ByteClass::Mark(word),
         None => class_of_plain(b),
     }
 }
@@ -82,12 +82,12 @@ fn printable(b: u8) -> bool
     32 <= b && b <= 126
 }
 
-fn variable_part(class: Class) -> bool
+fn variable_part(class: ByteClass) -> bool
     ensures { result ≡ is_variable_part class }
 {
     matches!(
         class,
-        Class::At | Class::Digit | Class::Lower | Class::Capital
+        ByteClass::At | ByteClass::Digit | ByteClass::Lower | ByteClass::Capital
     )
 }
 
@@ -135,14 +135,14 @@ fn begin(alloc: Global, left: usize, b: u8, out: &mut Items<Lexeme>) -> Result<S
     ensures { IfOk result (λ s. Steps out.old out.new s (begun left b (class_of b))) }
 {
     match class(b) {
-        Class::Space => Ok(State::Gap),
-        Class::Digit => Ok(State::Integer(left, Sign::Absent, one(alloc, b)?)),
-        Class::Plus => Ok(State::Signed(left, Sign::Plus)),
-        Class::Minus => Ok(State::Signed(left, Sign::Minus)),
-        Class::Lower => Ok(State::Word(left, one(alloc, b)?)),
-        Class::Capital => Ok(State::Variable(left, one(alloc, b)?)),
-        Class::Quote => Ok(State::Atom(left, Items::new(alloc))),
-        Class::Mark(word) => {
+        ByteClass::Space => Ok(State::Gap),
+        ByteClass::Digit => Ok(State::Integer(left, Sign::Absent, one(alloc, b)?)),
+        ByteClass::Plus => Ok(State::Signed(left, Sign::Plus)),
+        ByteClass::Minus => Ok(State::Signed(left, Sign::Minus)),
+        ByteClass::Lower => Ok(State::Word(left, one(alloc, b)?)),
+        ByteClass::Capital => Ok(State::Variable(left, one(alloc, b)?)),
+        ByteClass::Quote => Ok(State::Atom(left, Items::new(alloc))),
+        ByteClass::Mark(word) => {
             out.push(Lexeme {
                 left,
                 token: Token::Word(word),
@@ -183,8 +183,8 @@ fn in_signed(
     ensures { IfOk result (λ s. Steps out.old out.new s (stepped 0 (Signed from sign) b)) }
 {
     match class(b) {
-        Class::Digit => Ok(State::Integer(from, sign, one(alloc, b)?)),
-        Class::Mark(Word::Greater) => match sign {
+        ByteClass::Digit => Ok(State::Integer(from, sign, one(alloc, b)?)),
+        ByteClass::Mark(Word::Greater) => match sign {
             Sign::Minus => {
                 out.push(Lexeme {
                     left: from,
@@ -210,7 +210,7 @@ fn in_integer(
     ensures { IfOk result (λ s. Steps out.old out.new s (stepped left (Integer from sign digits) b)) }
 {
     match class(b) {
-        Class::Digit => {
+        ByteClass::Digit => {
             let mut digits = digits;
             digits.push(b)?;
             Ok(State::Integer(from, sign, digits))
@@ -258,7 +258,7 @@ fn in_word(
     ensures { IfOk result (λ s. Steps out.old out.new s (stepped left (InWord from letters) b)) }
 {
     match class(b) {
-        Class::Lower => {
+        ByteClass::Lower => {
             let mut letters = letters;
             letters.push(b)?;
             Ok(State::Word(from, letters))
@@ -285,14 +285,14 @@ fn in_atom(
     ensures { IfOk result (λ s. Steps out.old out.new s (stepped 0 (Atom from text) b)) }
 {
     match class(b) {
-        Class::Quote => {
+        ByteClass::Quote => {
             out.push(Lexeme {
                 left: from,
                 token: Token::Atom(text),
             })?;
             Ok(State::Gap)
         }
-        Class::Backslash => Ok(State::Failed(from)),
+        ByteClass::Backslash => Ok(State::Failed(from)),
         _ => {
             if printable(b) {
                 let mut text = text;
