@@ -1,3 +1,5 @@
+pub mod Digits
+pub mod Scopes
 pub mod Scanned
 pub mod ScanLoop
 pub mod ScannedOnly

@@ -66,7 +66,7 @@ fn class_of_plain(b: u8) -> ByteClass
 }
 
 #[tactic(auto, unfolding(hy_core::specs::Bytes::class_of))]
-fn class(b: u8) -> ByteClass
+pub fn class(b: u8) -> ByteClass
     ensures { result ≡ class_of b }
 {
     match mark(b) {
