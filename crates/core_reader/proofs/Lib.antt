@@ -3,3 +3,10 @@ pub mod Scopes
 pub mod Scanned
 pub mod ScanLoop
 pub mod ScannedOnly
+pub mod Meaning
+pub mod Tests
+pub mod Moves
+pub mod Exact
+pub mod Growth
+pub mod TokenLoop
+pub mod WholeText

@@ -1,10 +1,10 @@
 -- The variables that are bound inside the frames.
-use Rattle.std.proofs.Common.{◌≡◌, ℕ, zero, suc, ◌+◌, ◌<◌, eqb, Bool, true, false, ◌||◌, List, [], ◌∷◌, ◌++◌, length, reverse, refl, sym, ap, subst, ◌∙◌, inl, inr, ◌⊎◌, arith, Contains, eq-eqb}
+use Rattle.std.proofs.Common.{◌≡◌, ℕ, zero, suc, eqb, Bool, true, false, ◌||◌, List, [], ◌∷◌, reverse, refl, ap, ◌∙◌, inl, inr, ◌⊎◌, arith, Contains, eq-eqb}
 use Rattle.std.specs.List.{list_any}
 use Rattle.std.proofs.lemmas.Bool.{eqb-true}
 use Rattle.std.proofs.lemmas.List.{reverse-append}
 use Rattle.std.proofs.lemmas.List.Folds.{list_any-append}
-use Rattle.core_reader.specs.Machine.{binds, is_bound}
+use Rattle.core_reader.specs.Machine.{is_bound}
 use Rattle.core_reader.specs.declared.state.Frame.{Frame}
 use Rattle.core_reader.specs.declared.state.Frame.TheVariants as f
 

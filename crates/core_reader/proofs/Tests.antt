@@ -1,11 +1,9 @@
 -- What the machine's tests say.
-use Rattle.std.proofs.Common.{◌≡◌, ℕ, ◌<◌, ◌≤◌, ◌^◌, Bool, true, false, ◌&&◌, eqb, leb, ltb, List, [], ◌∷◌, Option, Some, None, if◌then◌else◌, ◌==◌, refl, sym, ap, subst, ◌∙◌}
-use Rattle.std.specs.List.{list_all}
-use Rattle.std.specs.Str.{bytes_eq}
+use Rattle.std.proofs.Common.{◌≡◌, ℕ, ◌^◌, Bool, true, false, ◌&&◌, eqb, leb, List, [], ◌∷◌, Option, Some, if◌then◌else◌, ◌==◌, refl, sym, ap, ◌∙◌}
 use Rattle.std.proofs.lemmas.Bool.{eqb-true, ltb-true, lt-ltb, leb-true, le-leb}
 use Rattle.std.proofs.lemmas.Slice.Eq.{bytes_eq-Decides}
 use Rattle.hy_core.specs.Bytes.{class_of, is_word_part, Pass}
-use Rattle.hy_core.specs.Marks.{Marked, Role, Plain, Value, value, IsInRange, Fits, IsSound}
+use Rattle.hy_core.specs.Marks.{Marked, Role, Value, value, IsInRange, Fits, IsSound}
 use Rattle.core_reader.specs.Machine.{code, is_word, is_atom, is_zero, are_word_parts, on, in_range, fits, is_sound}
 use Rattle.hy_core.specs.declared.token.Word.{Word}
 use Rattle.hy_core.specs.declared.token.Word.TheVariants as w

@@ -1,5 +1,6 @@
 -- What the parts of the reader answer, by what reading on lists gives.
-use Rattle.std.specs.Prelude.{◌≡◌, List, Option, Some, None, Result, Ok, Err}
+use Rattle.std.specs.Prelude.{◌≡◌, ℕ, List, Option, Some, None, Result, Ok, Err}
+use Rattle.hy_core.specs.Reading.{IsModuleText}
 use Rattle.core_reader.specs.Machine.{ExprState, State}
 use Rattle.hy_core.specs.declared.tables.Tables.{Tables}
 use Rattle.hy_core.specs.declared.tree.Module.{Module}
@@ -24,3 +25,9 @@ abbrev pub GivesModule : Result Module ReadAnswer → Option Module → Type 0
 GivesModule (Ok z) o = o ≡ Some z
 GivesModule (Err NotBuilt) o = o ≡ None
 GivesModule (Err Memory) o = Unit {0}
+
+-- the tree of the text, that it has none, or want of memory
+abbrev pub GivesTree : Result Module ReadAnswer → List ℕ → Type 0
+GivesTree (Ok z) bytes = IsModuleText bytes z
+GivesTree (Err NotBuilt) bytes = (z : Module) → IsModuleText bytes z → ⊥
+GivesTree (Err Memory) bytes = Unit {0}

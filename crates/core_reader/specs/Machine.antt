@@ -1,9 +1,9 @@
 -- Reading one token after the other.
-use Rattle.std.specs.Prelude.{◌≡◌, Bool, true, false, ◌==◌, ◌&&◌, ℕ, ◌+◌, ◌^◌, nat_le, nat_lt, List, [], ◌∷◌, Option, Some, None, if◌then◌else◌}
+use Rattle.std.specs.Prelude.{Bool, true, false, ◌==◌, ◌&&◌, ℕ, ◌+◌, ◌^◌, nat_le, nat_lt, List, [], ◌∷◌, Option, Some, None, if◌then◌else◌}
 use Rattle.std.specs.List.{list_any, list_all}
 use Rattle.std.specs.Str.{bytes_eq}
 use Rattle.hy_core.specs.Bytes.{class_of, is_word_part}
-use Rattle.hy_core.specs.Marks.{Marked, Role, Plain, Value, at, plain, value, number}
+use Rattle.hy_core.specs.Marks.{Marked, Role, Value, at, plain, value, number}
 use Rattle.hy_core.specs.Grammar.{atom_number, with_atom, variable_number, with_variable, the_main, the_erlang, the_plus, the_display, call, main_module}
 use Rattle.hy_core.specs.declared.token.Word.{Word}
 use Rattle.hy_core.specs.declared.token.Word.TheVariants as w
@@ -27,6 +27,7 @@ use Rattle.core_reader.specs.declared.state.ExprMode.TheVariants as b
 use Rattle.core_reader.specs.declared.state.Piece.{Piece}
 use Rattle.core_reader.specs.declared.state.Piece.TheVariants as p
 use Rattle.core_reader.specs.declared.state.Header.{Header}
+use Rattle.core_reader.specs.declared.state.Finished.{Finished}
 use Rattle.core_reader.specs.declared.state.Mode.{Mode}
 use Rattle.core_reader.specs.declared.state.Mode.TheVariants as m
 
@@ -229,10 +230,17 @@ mark _ token = plain token
 abbrev pub stepped : Mode → List Frame → Tables → Token → Option State
 stepped mode fs s token = checked (mark mode token) (moved mode fs s token)
 
+abbrev pub finished_as : Mode → Option Finished
+finished_as (m.Finished h x) = Some (record { header = h; body = x })
+finished_as _ = None
+
+abbrev pub module_by : Option Finished → Tables → Option Module
+module_by (Some r) s = Some (main_module r.header.name r.header.main r.body s)
+module_by None s = None
+
 -- no token is left
 abbrev pub ended : Mode → Tables → Option Module
-ended (m.Finished h x) s = Some (main_module h.name h.main x s)
-ended _ s = None
+ended mode s = module_by (finished_as mode) s
 
 abbrev pub goes_on : Option State → (State → Option Module) → Option Module
 goes_on None go = None

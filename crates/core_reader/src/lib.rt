@@ -4,9 +4,12 @@
 mod answer;
 mod expr;
 mod fixed;
+mod module;
 mod number;
+mod read;
 mod scan;
 mod stack;
 mod state;
 
 pub use answer::ReadAnswer;
+pub use read::{one_tree, read_module};

@@ -332,7 +332,8 @@ fn last(left: usize, token: Token, out: &mut Items<Lexeme>) -> Result<Ending, Al
 
 /// The tokens of the text, and what comes behind the last.
 pub fn lex(alloc: Global, bytes: &[u8]) -> Result<Lexed, AllocError>
-    ensures { IfOk result (λ r. Lexes bytes.now r.lexemes r.ending) }
+    ensures tokens { IfOk result (λ r. Lexes bytes.now r.lexemes r.ending) }
+    ensures few { IfOk result (λ r. length r.lexemes ≤ length bytes.now) }
 {
     let mut lexemes = Items::new(alloc);
     let mut state = State::Gap;

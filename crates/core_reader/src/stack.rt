@@ -1,4 +1,4 @@
-ghost use Rattle.std.specs.Prelude.{◌≡◌, [], ◌∷◌, reverse, OnOk, OnErr, MatchOption};
+ghost use Rattle.std.specs.Prelude.{◌≡◌, [], ◌∷◌, reverse, OnOk, OnErr, MatchOption, IfOk};
 
 use std::alloc::{AllocError, Global};
 use std::marker::Model;
@@ -50,5 +50,16 @@ impl<T: Drop> Stack<T> {
     {
         self.items.push(top)?;
         Ok(())
+    }
+}
+
+impl<T: Copy> Stack<T> {
+    /// The stack of these items, the top last.
+    pub fn from_slice(alloc: Global, items: &[T]) -> Result<Stack<T>, AllocError>
+        ensures { IfOk result (λ stack. stack ≡ reverse items.now) }
+    {
+        Ok(Stack {
+            items: Vec::from_slice(alloc, items)?,
+        })
     }
 }

@@ -109,3 +109,10 @@ pub enum Mode {
     /// Nothing.
     Finished(Header, Expr),
 }
+
+/// A module whose last token is read.
+#[derive(Drop)]
+pub struct Finished {
+    pub header: Header,
+    pub body: Expr,
+}

@@ -1,5 +1,5 @@
 use Rattle.core_reader.proofs.Scopes.{list_any_reversed}
-use Rattle.std.proofs.Common.{◌≡◌, ◌∙◌, ap}
+use Rattle.std.proofs.Common.{◌∙◌, ap}
 use Rattle.std.specs.List.{list_any}
 use Rattle.core_reader.specs.Machine.{binds}
 use Rattle.core_reader.proofs.expr.has_bound.Goals as goal
