@@ -1,5 +1,7 @@
 pub mod AloneLemmas
+pub mod Forms
 pub mod Meanings
 pub mod Resolving
 pub mod Rules
 pub mod Runs
+pub mod Timing

@@ -7,7 +7,7 @@ use Rattle.hy_terms.specs.Term.{Term, Terms, MoreTerms, terms_of}
 use Rattle.hy_core.specs.declared.class.Class.{Class}
 use Rattle.hy_core.specs.declared.class.Class.TheVariants.{Error}
 use Rattle.hy_core.specs.declared.tree.FunName.{FunName}
-use Rattle.hy_core.specs.Computation.{Computation, Give, Raise, Fault, Act, Call, Birth, Receive, bind, Input, Outcome, Values, Raised, Wrong, run, Result, result_of}
+use Rattle.hy_core.specs.Computation.{Computation, Give, Raise, Fault, Act, Call, Birth, Receive, bind, Input, Outcome, Values, Raised, Wrong, Run, run, Result, result_of}
 use Rattle.hy_core.specs.Event.{Event, Sent, Spawned, Printed}
 use Rattle.hy_core.specs.Resolved as r
 use Rattle.hy_core.specs.Resolved.{Patterns, Head, BuiltIn, Function, Local, Setelement, Send, Spawn, Display, Raising, MatchFail, Timeout, AtOnce, Never, Expression, Expressions, NoExpressions, MoreExpressions, Clauses, NoClauses, MoreClauses, Functions, NoFunctions, MoreFunctions, FunctionTree, is_name}
@@ -196,9 +196,12 @@ module _ (program : List FunctionTree) (atoms : List (List ℕ)) (pid : ℕ) whe
   abbrev pub Evaluated : Type 0
   Evaluated = Result Term Class (Event Term) Wait
 
-  -- a computation, with so many calls and these inputs
+  -- a computation, with so many calls and these inputs: a call does nothing that others see
+  abbrev pub run_of : (calls : ℕ) → Doing → List (Input Term) → Run Term Class (Event Term) Wait
+  run_of calls p inputs = run (λ e. e) [] body_of calls p inputs
+
   abbrev pub evaluated : (calls : ℕ) → Doing → List (Input Term) → Evaluated
-  evaluated calls p inputs = result_of (run (λ e. e) [] body_of calls p inputs)
+  evaluated calls p inputs = result_of (run_of calls p inputs)
 
   -- an expression
   abbrev pub eval : (calls : ℕ) → Env → Expression → List (Input Term) → Evaluated

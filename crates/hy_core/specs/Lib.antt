@@ -5,6 +5,7 @@ pub mod Built
 pub mod Bytes
 pub mod Computation
 pub mod Evaluation
+pub mod EvaluationLaws
 pub mod Event
 pub mod Examples
 pub mod FullRun

@@ -1,0 +1,4 @@
+//! Laws of what programs mean. Each function does nothing: its clause is the law.
+
+/// The laws of evaluation, form by form, by the Core Erlang 1.0.3 report.
+pub mod evaluation;
