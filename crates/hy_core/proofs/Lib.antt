@@ -4,4 +4,5 @@ pub mod Meanings
 pub mod Resolving
 pub mod Rules
 pub mod Runs
+pub mod Source
 pub mod Timing

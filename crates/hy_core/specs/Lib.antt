@@ -17,5 +17,7 @@ pub mod Meaning
 pub mod Output
 pub mod Reading
 pub mod Resolve
+pub mod ResolvedExample
 pub mod Resolved
+pub mod Source
 pub mod Tokens

@@ -2,3 +2,5 @@
 
 /// The laws of evaluation, form by form, by the Core Erlang 1.0.3 report.
 pub mod evaluation;
+/// Small programs, and what they do.
+pub mod runs;
