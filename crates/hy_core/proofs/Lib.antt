@@ -6,3 +6,4 @@ pub mod Rules
 pub mod Runs
 pub mod Source
 pub mod Timing
+pub mod WorkedRuns

@@ -21,3 +21,4 @@ pub mod ResolvedExample
 pub mod Resolved
 pub mod Source
 pub mod Tokens
+pub mod Worked
