@@ -1,3 +1,4 @@
+pub mod BuiltParts
 pub mod AloneLemmas
 pub mod Forms
 pub mod Meanings

@@ -1,4 +1,6 @@
+pub mod Examples
 pub mod Naming
+pub mod Printed
 pub mod Term
 pub mod TermOrder
 pub mod TermText

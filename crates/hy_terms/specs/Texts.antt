@@ -1,11 +1,7 @@
--- The printed texts of terms; this project's own.
-use Rattle.std.specs.Prelude.{ℕ, ◌+◌, ◌/◌, ◌%◌, ℤ, Bool, ◌==◌, nat_le, ◌&&◌, ◌||◌, if◌then◌else◌, List, [], ◌∷◌, ◌++◌, map, codes}
+-- The texts of numbers, atoms and pids; this project's own.
+use Rattle.std.specs.Prelude.{ℕ, ◌+◌, ◌/◌, ◌%◌, ℤ, Bool, ◌==◌, nat_le, ◌&&◌, ◌||◌, if◌then◌else◌, List, [], ◌∷◌, ◌++◌, codes}
 use Rattle.std.specs.Fmt.{decimal, signed_decimal}
-use Rattle.std.specs.List.{flat_map, join_with_byte}
-use Rattle.hy_terms.specs.Naming.{text_of}
-use Rattle.hy_terms.specs.declared.term.Term.{Term}
-use Rattle.hy_terms.specs.declared.term.Term.TheOpen as layer
-use Rattle.hy_terms.specs.declared.term.Term.TheFolds.{fold-Term}
+use Rattle.std.specs.List.{flat_map}
 
 -- a number in decimal, with a minus sign where it is negative
 abbrev pub int_text : ℤ → List ℕ
@@ -34,31 +30,3 @@ atom_text text = quoted 39 text
 
 abbrev pub pid_text : ℕ → List ℕ
 pid_text pid = codes "<0." ++ decimal pid ++ codes ".0>"
-
--- the text of a term, and what it adds to a list notation whose tail it is
-pub record Printed : Type 0 where
-  pub whole : List ℕ
-  pub as_tail : List ℕ
-
--- a term that is no list, behind a bar where it is a tail
-abbrev pub printed_alone : List ℕ → Printed
-printed_alone text = record { whole = text; as_tail = codes "|" ++ text ++ codes "]" }
-
-abbrev pub printed_step : List (List ℕ) → layer.Term-F Printed → Printed
-printed_step atoms (layer.Int n) = printed_alone (int_text n)
-printed_step atoms (layer.Atom atom) = printed_alone (atom_text (text_of atoms atom))
-printed_step atoms (layer.Pid pid) = printed_alone (pid_text pid)
-printed_step atoms layer.Nil = record { whole = codes "[]"; as_tail = codes "]" }
-printed_step atoms (layer.Cons head tail) = record {
-  whole = codes "[" ++ head.whole ++ tail.as_tail;
-  as_tail = codes "," ++ head.whole ++ tail.as_tail;
-}
-printed_step atoms (layer.Tuple parts) = printed_alone (codes "{" ++ join_with_byte 44 (map (λ part. part.whole) parts) ++ codes "}")
-
--- numbers in decimal, quoted atoms, pids, `[]`, `{a,b}`, `[a,b]` and `[a,b|t]`, without spaces
-unfoldable pub term_text : List (List ℕ) → Term → List ℕ
-term_text atoms term = (fold-Term Printed (printed_step atoms) term).whole
-
--- what a term prints as: its text and a line feed
-abbrev pub printed_text : List (List ℕ) → Term → List ℕ
-printed_text atoms term = term_text atoms term ++ 10 ∷ []

@@ -2,6 +2,7 @@
 #![tactic(auto)]
 
 mod atoms;
+pub mod laws;
 mod memory;
 mod term;
 mod text;

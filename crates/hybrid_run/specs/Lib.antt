@@ -1,3 +1,4 @@
+pub mod Arithmetic
 pub mod Faults
 pub mod FileWords
 pub mod MemorySink

@@ -1,8 +1,10 @@
 //! The top call, and what it meets outside.
 #![tactic(auto)]
 
+mod evaluate;
 mod fault;
 pub mod outside;
+mod value;
 mod words;
 
 pub use fault::{TopFault, fault_text};
