@@ -5,10 +5,10 @@ use Rattle.hy_terms.specs.Term as term
 use Rattle.hy_terms.specs.Term.{NoTerms, MoreTerms}
 use Rattle.hy_core.specs.declared.end.End.{End}
 use Rattle.hy_core.specs.declared.step.Step.{Step}
-use Rattle.hy_core.specs.FullRun.{IsFullRun, runs_of, after_run}
+use Rattle.hy_core.specs.FullRun.{IsFullRun, IsRunOf, runs_of, after_run}
 use Rattle.hy_core.specs.Resolved.{FunctionTree}
-use Rattle.hy_core.specs.Source.{Source}
-use Rattle.hy_core.specs.Worked.{atoms, names, event, took, lapsed, modules, program, none_stopped, limit, nothing, least, past_the_range, least_divided, division, two_messages, no_clauses, only_b, waits_for_ever, printed_source, ordered_source, to_no_pid, case_of_nothing, fails_in_a_function, fails_to_match, throws, reversed, parent, child, two_and_take, one_and_poll, NumbersHaveARange, DivisionCuts, ReceiveSelects, ReceiveLapsesOrWaits, TermsPrint, TermsAreOrdered, RaisesEnd, PreludeCounts, StartCostsNothing, ParentAndChild, AreNoRuns}
+use Rattle.hy_core.specs.Source.{Source, module_trees}
+use Rattle.hy_core.specs.Worked.{atoms, names, event, took, lapsed, modules, program, none_stopped, limit, nothing, least, past_the_range, least_divided, division, two_messages, no_clauses, only_b, waits_for_ever, either, guarded, shown_in_order, printed_source, ordered_source, to_no_pid, case_of_nothing, fails_in_a_function, fails_to_match, throws, reversed, parent, child, two_and_take, one_and_poll, NumbersHaveARange, DivisionCuts, ReceiveSelects, ReceiveLapsesOrWaits, MessageBeforeClause, GuardsHoldByTrue, PartsGoFromLeft, TermsPrint, TermsAreOrdered, RaisesEnd, PreludeCounts, StartCostsNothing, ParentAndChild, AreNoRuns}
 use Rattle.hy_core.proofs.Source.{program_is, modules_read}
 
 abbrev read : Source → Source → List FunctionTree
@@ -18,11 +18,12 @@ read main other = modules_read names 0 (modules main other)
 is_read : (main other : Source) → read main other ≡ program main other
 is_read main other = sym (program_is names (modules main other))
 
--- a full run of the program as it is read
-run_with : (main other : Source) (calls : ℕ) (steps : List Step) (ends : List End) (output : List ℕ) → IsFullRun (read main other) atoms calls none_stopped 0 steps ends output → IsFullRun (program main other) atoms calls none_stopped 0 steps ends output
-run_with main other calls steps ends output h = subst (λ p. IsFullRun p atoms calls none_stopped 0 steps ends output) (is_read main other) h
+-- a run of the program as it is read, whose main is function 0
+run_with : (main other : Source) (calls : ℕ) (steps : List Step) (ends : List End) (output : List ℕ) → IsFullRun (read main other) atoms calls none_stopped 0 steps ends output → IsRunOf names (module_trees (modules main other)) calls none_stopped steps ends output
+run_with main other calls steps ends output h =
+    record { main = 0; is_main = refl; run = subst (λ p. IsFullRun p atoms calls none_stopped 0 steps ends output) (is_read main other) h }
 
-as_read : (main other : Source) (steps : List Step) (ends : List End) (output : List ℕ) → IsFullRun (read main other) atoms limit none_stopped 0 steps ends output → IsFullRun (program main other) atoms limit none_stopped 0 steps ends output
+as_read : (main other : Source) (steps : List Step) (ends : List End) (output : List ℕ) → IsFullRun (read main other) atoms limit none_stopped 0 steps ends output → IsRunOf names (module_trees (modules main other)) limit none_stopped steps ends output
 as_read main other steps ends output h = run_with main other limit steps ends output h
 
 pub numbers_have_a_range : NumbersHaveARange
@@ -48,6 +49,18 @@ receive_lapses_or_waits = record {
   not_accepted = as_read only_b nothing _ _ _ (record { full = record { last = _; allowed = refl; at_ends = (record { through = record { events = refl; inputs = refl }; value = (term.Atom 17); end = refl; printed = refl }, tt) }; writes = refl });
   waits = as_read waits_for_ever nothing _ _ _ (record { full = record { last = _; allowed = refl; at_ends = (record { events = refl; wait = _; end = refl; never = refl; none = refl }, tt) }; writes = refl });
 }
+
+pub message_before_clause : MessageBeforeClause
+unfolding digits
+message_before_clause = as_read either nothing _ _ _ (record { full = record { last = _; allowed = refl; at_ends = (record { through = record { events = refl; inputs = refl }; value = (term.Atom 15); end = refl; printed = refl }, tt) }; writes = refl })
+
+pub guards_hold_by_true : GuardsHoldByTrue
+unfolding digits
+guards_hold_by_true = as_read guarded nothing _ _ _ (record { full = record { last = _; allowed = refl; at_ends = (record { through = record { events = refl; inputs = refl }; value = (term.Atom 18); end = refl; printed = refl }, tt) }; writes = refl })
+
+pub parts_go_from_left : PartsGoFromLeft
+unfolding digits
+parts_go_from_left = as_read shown_in_order nothing _ _ _ (record { full = record { last = _; allowed = refl; at_ends = (record { through = record { events = refl; inputs = refl }; value = (term.Tuple (MoreTerms (term.Atom 0) (MoreTerms (term.Atom 0) NoTerms))); end = refl; printed = refl }, tt) }; writes = refl })
 
 pub terms_print : TermsPrint
 unfolding digits
@@ -88,5 +101,6 @@ unfolding digits
 are_no_runs = record {
   take_before_send = ap (λ p. after_run p atoms limit 0 (event 0 0 ∷ took 1 1 ∷ [])) (sym (is_read parent child));
   take_of_later = ap (λ p. after_run p atoms limit 0 (event 0 0 ∷ event 0 1 ∷ took 0 1 ∷ [])) (sym (is_read two_and_take nothing));
+  take_by_first_clause = ap (λ p. after_run p atoms limit 0 (event 0 0 ∷ event 0 1 ∷ took 0 1 ∷ [])) (sym (is_read either nothing));
   lapse_beside_accepted = ap (λ p. after_run p atoms limit 0 (event 0 0 ∷ lapsed 0 1 ∷ [])) (sym (is_read one_and_poll nothing));
 }

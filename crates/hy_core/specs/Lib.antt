@@ -1,13 +1,14 @@
 pub use Rattle.hy_terms.specs.Naming
 pub mod Alone
 pub mod BuiltIn
+pub mod BuiltInTable
 pub mod Built
 pub mod Bytes
 pub mod Computation
 pub mod Evaluation
+pub mod Evaluated
 pub mod EvaluationLaws
 pub mod Event
-pub mod Examples
 pub mod FullRun
 pub mod Grammar
 pub mod Machine

@@ -11,7 +11,7 @@ use Rattle.hy_core.specs.declared.step.Step.{Step}
 use Rattle.hy_core.specs.declared.tree.FunName.{FunName}
 use Rattle.hy_core.specs.BuiltIn.{own_atoms}
 use Rattle.hy_core.specs.Computation.{Spent}
-use Rattle.hy_core.specs.FullRun.{IsFullRun, after_run, runs_of}
+use Rattle.hy_core.specs.FullRun.{IsRunOf, after_run, runs_of}
 use Rattle.hy_core.specs.Machine.{Process, Configuration}
 use Rattle.hy_core.specs.Resolve.{Names, function_trees}
 use Rattle.hy_core.specs.Resolved.{FunctionTree}
@@ -111,7 +111,7 @@ lapsed pid seen = record { pid = pid; item = item.Lapsed seen }
 
 -- the program whose main has this body runs by these steps to these ends, and writes this
 abbrev Writes : Source → List Step → List End → List ℕ → Type 0
-Writes main steps ends output = IsFullRun (program main nothing) atoms limit none_stopped 0 steps ends output
+Writes main steps ends output = IsRunOf names (module_trees (modules main nothing)) limit none_stopped steps ends output
 
 -- the text of a value with which main ends at once
 abbrev EndsWith : Source → List ℕ → Type 0
@@ -172,6 +172,33 @@ pub record ReceiveLapsesOrWaits : Type 0 where
   pub without_clauses : Writes no_clauses (lapsed 0 0 ∷ []) (Ended (codes "'no'") ∷ []) (line (codes "0 ended 'no'"))
   pub not_accepted : Writes only_b (event 0 0 ∷ lapsed 0 1 ∷ []) (Ended (codes "'no'") ∷ []) (line (codes "0 ended 'no'"))
   pub waits : Writes waits_for_ever [] (Waits ∷ []) (line (codes "0 waits"))
+
+-- receive <'b'> -> 'b' <'a'> -> 'a' after 'infinity' -> 'true'
+abbrev pub either : Source
+either =
+    SDo (send self (SAtom 15)) (SDo (send self (SAtom 16)) (SReceive (clause (PAtom 16) (SAtom 16) (clause (PAtom 15) (SAtom 15) NoC)) (SAtom 19) (SAtom 0)))
+
+-- the first message that some clause accepts goes before the first clause
+abbrev pub MessageBeforeClause : Type 0
+MessageBeforeClause = Writes either (event 0 0 ∷ event 0 1 ∷ took 0 0 ∷ []) (Ended (codes "'a'") ∷ []) (line (codes "0 ended 'a'"))
+
+-- guards and arguments
+
+-- case 1 of <V0> when erlang:div(1, 0) -> 'a' <V0> when 'b' -> 'b' <V0> when 'true' -> 'yes' end
+abbrev pub guarded : Source
+guarded =
+    SCase (int 1) (MoreC (MoreP (PVar 0) NoP) (erlang 21 (both (int 1) (int 0))) (SAtom 15) (MoreC (MoreP (PVar 0) NoP) (SAtom 16) (SAtom 16) (clause (PVar 0) (SAtom 18) NoC)))
+
+-- a guard that raises, or that gives another value than 'true', does not hold
+abbrev pub GuardsHoldByTrue : Type 0
+GuardsHoldByTrue = EndsWith guarded (codes "'yes'")
+
+-- {erlang:display(1), erlang:display(2)}
+abbrev pub shown_in_order : Source
+shown_in_order = STuple (both (display (int 1)) (display (int 2)))
+
+abbrev pub PartsGoFromLeft : Type 0
+PartsGoFromLeft = Writes shown_in_order (event 0 0 ∷ event 0 1 ∷ []) (Ended (codes "{'true','true'}") ∷ []) (line (codes "1") ++ line (codes "2") ++ line (codes "0 ended {'true','true'}"))
 
 -- texts and order
 
@@ -235,7 +262,7 @@ pub record PreludeCounts : Type 0 where
 
 -- the start call costs none
 abbrev pub StartCostsNothing : Type 0
-StartCostsNothing = IsFullRun (program nothing nothing) atoms 0 none_stopped 0 [] (Ended (codes "'no'") ∷ []) (line (codes "0 ended 'no'"))
+StartCostsNothing = IsRunOf names (module_trees (modules nothing nothing)) 0 none_stopped [] (Ended (codes "'no'") ∷ []) (line (codes "0 ended 'no'"))
 
 -- two processes
 
@@ -250,7 +277,7 @@ child = receive_one (PVar 0) (display (SVar 0))
 -- a spawn, a send to the child, its take and its print, and both ends
 abbrev pub ParentAndChild : Type 0
 ParentAndChild =
-    IsFullRun (program parent child) atoms limit none_stopped 0 (event 0 0 ∷ event 0 1 ∷ took 1 1 ∷ event 1 2 ∷ []) (Ended (codes "8") ∷ Ended (codes "'true'") ∷ [])
+    IsRunOf names (module_trees (modules parent child)) limit none_stopped (event 0 0 ∷ event 0 1 ∷ took 1 1 ∷ event 1 2 ∷ []) (Ended (codes "8") ∷ Ended (codes "'true'") ∷ [])
     (line (codes "8") ++ line (codes "0 ended 8") ++ line (codes "1 ended 'true'"))
 
 -- what is no run
@@ -267,4 +294,5 @@ one_and_poll = SDo (send self (SAtom 15)) (SReceive (clause (PVar 0) (SVar 0) No
 pub record AreNoRuns : Type 0 where
   pub take_before_send : Run parent child (event 0 0 ∷ took 1 1 ∷ []) ≡ None
   pub take_of_later : Run two_and_take nothing (event 0 0 ∷ event 0 1 ∷ took 0 1 ∷ []) ≡ None
+  pub take_by_first_clause : Run either nothing (event 0 0 ∷ event 0 1 ∷ took 0 1 ∷ []) ≡ None
   pub lapse_beside_accepted : Run one_and_poll nothing (event 0 0 ∷ lapsed 0 1 ∷ []) ≡ None

@@ -1,9 +1,13 @@
+ghost use Rattle.hy_core.specs.Evaluated.{LetrecCounts, InputsAreUsed};
 ghost use Rattle.hy_core.specs.ResolvedExample.{IsResolved};
 ghost use Rattle.hy_core.specs.Worked.{
   NumbersHaveARange,
   DivisionCuts,
   ReceiveSelects,
   ReceiveLapsesOrWaits,
+  MessageBeforeClause,
+  GuardsHoldByTrue,
+  PartsGoFromLeft,
   TermsPrint,
   TermsAreOrdered,
   RaisesEnd,
@@ -74,4 +78,29 @@ pub fn parent_and_child_run()
 /// accepted, or lapses although a message is accepted.
 pub fn some_steps_are_no_run()
     ensures { AreNoRuns }
+{}
+
+/// The first message that some clause accepts goes before the first clause.
+pub fn messages_go_before_clauses()
+    ensures { MessageBeforeClause }
+{}
+
+/// A guard that raises, or that gives another value than `'true'`, does not hold.
+pub fn guards_hold_by_true_alone()
+    ensures { GuardsHoldByTrue }
+{}
+
+/// Parts are evaluated from left to right.
+pub fn parts_go_from_left_to_right()
+    ensures { PartsGoFromLeft }
+{}
+
+/// A function of a `letrec` sees what was bound around the `letrec`, and each call of it costs one.
+pub fn letrec_functions_count()
+    ensures { LetrecCounts }
+{}
+
+/// How a spawn and a receive use inputs.
+pub fn inputs_are_used()
+    ensures { InputsAreUsed }
 {}
