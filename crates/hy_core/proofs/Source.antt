@@ -5,7 +5,7 @@ use Rattle.hy_core.specs.declared.tree.Expr.{Expr}
 use Rattle.hy_core.specs.declared.tree.Expr.TheOpen as layer
 use Rattle.hy_core.specs.declared.tree.Expr.TheOpen.{Expr-F}
 use Rattle.hy_core.specs.declared.tree.Pattern.TheOpen as pattern_layer
-use Rattle.hy_core.specs.Resolve.{Names, Part, ClausePart, FunctionPart, PatternPart, expr_step, function_step, pattern_step, part_of, pattern_of, patterns_of, nodes_of, after_nodes, next, made, Place, functions_from, modules_from, function_trees}
+use Rattle.hy_core.specs.Resolve.{Names, Part, ClausePart, FunctionPart, PatternPart, expr_step, function_step, pattern_step, part_of, pattern_of, patterns_of, nodes_of, at_nodes, next, made, Place, functions_from, modules_from, function_trees}
 use Rattle.hy_core.specs.Resolved.{MoreClauses, Expression, FunctionTree}
 use Rattle.hy_core.specs.Source.{SourcePattern, PVar, PInt, PAtom, PNil, PStr, PTuple, PList, PAlias, SourcePatterns, NoP, MoreP, Source, SInt, SAtom, SNil, SStr, SVar, SName, STuple, SList, SValues, SLet, SDo, SCase, SLetrec, SApply, SCall, SPrimop, SReceive, STry, Sources, NoS, MoreS, SourceClauses, NoC, MoreC, SourceFunctions, NoF, MoreF, pattern_tree, pattern_trees, tree, all_trees, clause_trees, function_trees_of, SourceModule, module_trees}
 use Rattle.hy_core.proofs.Resolving.{clause_part, function_part, part_of-Int, part_of-Atom, part_of-Nil, part_of-Str, part_of-Var, part_of-Name, part_of-Tuple, part_of-List, part_of-Values, part_of-Let, part_of-Do, part_of-Case, part_of-Letrec, part_of-Apply, part_of-Call, part_of-Primop, part_of-Receive, part_of-Try, clause_part-is, function_part-is, pattern_of-Var, pattern_of-Int, pattern_of-Atom, pattern_of-Nil, pattern_of-Str, pattern_of-Tuple, pattern_of-List, pattern_of-Alias}
@@ -48,7 +48,7 @@ module _ (names : Names) (current : ℕ) where
 
   -- a clause of parts, with its patterns as they are made
   abbrev clause_made : List PatternPart → Part → Part → ClausePart
-  clause_made ps guard body = after_nodes names current (nodes_of ps) (next guard.make_guard λ g. next body.make λ b. made (MoreClauses (patterns_of ps) g b))
+  clause_made ps guard body = at_nodes (nodes_of ps) (next guard.make_guard λ g. next body.make λ b. made (MoreClauses (patterns_of ps) g b))
 
   abbrev mutual
     pub part_made : Source → Part

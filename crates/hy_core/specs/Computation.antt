@@ -59,6 +59,7 @@ pub record Run (V C B W : Type 0) : Type 0 where
   pub inputs : List (Input V)
   pub end : Outcome V C W
 
+-- nothing more happens, and something happens first
 abbrev pub stop : {V C B W : Type 0} → ℕ → List (Input V) → Outcome V C W → Run V C B W
 stop calls inputs end = record { moments = []; calls = calls; inputs = inputs; end = end }
 
@@ -107,6 +108,7 @@ pub record Result (V C B W : Type 0) : Type 0 where
   pub inputs : List (Input V)
   pub end : Outcome V C W
 
+-- what happened without the uses of inputs between
 abbrev pub result_of : {V C B W : Type 0} → Run V C B W → Result V C B W
 result_of r = record { events = dones r.moments; calls = r.calls; inputs = r.inputs; end = r.end }
 

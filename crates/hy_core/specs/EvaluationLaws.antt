@@ -20,6 +20,7 @@ pub record Closed : Type 0 where
   pub env : Env
   pub body : Expression
 
+-- the end with one value
 abbrev pub one_value : Term → Outcome Term Class Wait
 one_value t = Values (t ∷ [])
 
