@@ -1,6 +1,7 @@
-pub mod BuiltParts
 pub mod AloneLemmas
+pub mod BuiltParts
 pub mod Forms
+pub mod MainLemmas
 pub mod Meanings
 pub mod Resolving
 pub mod Rules
