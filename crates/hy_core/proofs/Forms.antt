@@ -25,11 +25,11 @@ module _ (program : List FunctionTree) (atoms : List (List ℕ)) (pid : ℕ) whe
 
   -- what is ended at once
 
-  value_ended : (n : ℕ) (ins : List (Input Term)) (o : Option Term) → ran n (value_of o) ins ≡ ended n ins (value_end o)
+  pub value_ended : (n : ℕ) (ins : List (Input Term)) (o : Option Term) → ran n (value_of o) ins ≡ ended n ins (value_end o)
   value_ended n ins None = refl
   value_ended n ins (Some t) = refl
 
-  answer_ended : (n : ℕ) (ins : List (Input Term)) (a : Answer) → ran n (answered a) ins ≡ ended n ins (answer_end a)
+  pub answer_ended : (n : ℕ) (ins : List (Input Term)) (a : Answer) → ran n (answered a) ins ≡ ended n ins (answer_end a)
   answer_ended n ins (Value t) = refl
   answer_ended n ins (Raises class reason) = refl
 

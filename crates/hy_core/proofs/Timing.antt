@@ -1,5 +1,6 @@
 -- How a run goes on with more inputs or more calls, and where it stands at each input that it uses.
 use Rattle.std.proofs.Common.{◌≡◌, ℕ, zero, suc, List, [], ◌∷◌, ◌++◌, refl, sym, ap, ◌∙◌, subst}
+use Rattle.std.proofs.lemmas.List.{append-nil}
 use Rattle.hy_core.specs.Computation.{Computation, Give, Raise, Fault, Act, Call, Birth, Receive, attempt, Input, Got, Lapsed, Born, Outcome, Needs, NeedsPid, Moment, Did, Used, Run, run, after, after_all, dones, uses, IsDue, StandsBefore}
 use Rattle.hy_core.proofs.Runs.{dones-append}
 
@@ -15,12 +16,8 @@ continues_after_all : {V C B W : Type 0} (note : List B) (r s : Run V C B W) →
 continues_after_all [] r s h = h
 continues_after_all (b ∷ note) r s h = continues_after (Did b) _ _ (continues_after_all note r s h)
 
-append_nil : {A : Type 0} (xs : List A) → xs ++ [] ≡ xs
-append_nil [] = refl
-append_nil (x ∷ xs) = ap (◌∷◌ x) (append_nil xs)
-
 same_moments : {V C B W : Type 0} (r s : Run V C B W) → s.moments ≡ r.moments → Continues r s
-same_moments r s h = record { more = []; moments = h ∙ sym (append_nil r.moments) }
+same_moments r s h = record { more = []; moments = h ∙ sym (append-nil r.moments) }
 
 inputs_after_all : {V C B W : Type 0} (note : List B) (r : Run V C B W) → (after_all note r).inputs ≡ r.inputs
 inputs_after_all [] r = refl

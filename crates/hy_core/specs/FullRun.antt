@@ -23,6 +23,10 @@ main_number atoms (i ∷ is) m =
     if (i.module == m) && (bytes_eq (text_of atoms i.name.name) (codes "main") && (i.name.arity == 0)) then Some 0
     else one_on (main_number atoms is m)
 
+-- no process is stopped
+abbrev pub NeverStopped : Process Term → Cause → Type 0
+NeverStopped p cause = ⊥
+
 -- limit: the calls of each process
 module _ (program : List FunctionTree) (atoms : List (List ℕ)) (limit : ℕ) where
   -- what a process does: its function's body under its arguments; the start call costs no call

@@ -2,7 +2,6 @@
 use Rattle.std.specs.Prelude.{◌≡◌, ℕ, List, [], ◌∷◌, ◌++◌, pos, negsuc, codes, Option, None}
 use Rattle.hy_terms.specs.Term.{Term}
 use Rattle.hy_core.specs.declared.class.Class.TheVariants.{Error, Throw}
-use Rattle.hy_core.specs.declared.end.Cause.{Cause}
 use Rattle.hy_core.specs.declared.end.End.{End}
 use Rattle.hy_core.specs.declared.end.End.TheVariants.{Ended, Raised, Waits}
 use Rattle.hy_core.specs.declared.info.FunInfo.{FunInfo}
@@ -11,8 +10,8 @@ use Rattle.hy_core.specs.declared.step.Step.{Step}
 use Rattle.hy_core.specs.declared.tree.FunName.{FunName}
 use Rattle.hy_core.specs.BuiltIn.{own_atoms}
 use Rattle.hy_core.specs.Computation.{Spent}
-use Rattle.hy_core.specs.FullRun.{IsRunOf, after_run, runs_of}
-use Rattle.hy_core.specs.Machine.{Process, Configuration}
+use Rattle.hy_core.specs.FullRun.{NeverStopped, IsRunOf, after_run, runs_of}
+use Rattle.hy_core.specs.Machine.{Configuration}
 use Rattle.hy_core.specs.Resolve.{Names, function_trees}
 use Rattle.hy_core.specs.Resolved.{FunctionTree}
 use Rattle.hy_core.specs.Source.{SourcePattern, PVar, PInt, PAtom, PNil, PList, NoP, MoreP, Source, SInt, SAtom, SNil, SStr, SVar, SName, STuple, SList, SDo, SCase, SApply, SCall, SPrimop, SReceive, Sources, NoS, MoreS, SourceClauses, NoC, MoreC, NoF, MoreF, SourceModule, module_trees}
@@ -91,9 +90,6 @@ program main child = function_trees names (module_trees (modules main child))
 abbrev pub nothing : Source
 nothing = SAtom 17
 
-abbrev pub none_stopped : Process Term → Cause → Type 0
-none_stopped p cause = ⊥
-
 abbrev pub limit : ℕ
 limit = 10000000
 
@@ -111,7 +107,7 @@ lapsed pid seen = record { pid = pid; item = item.Lapsed seen }
 
 -- the program whose main has this body runs by these steps to these ends, and writes this
 abbrev Writes : Source → List Step → List End → List ℕ → Type 0
-Writes main steps ends output = IsRunOf names (module_trees (modules main nothing)) limit none_stopped steps ends output
+Writes main steps ends output = IsRunOf names (module_trees (modules main nothing)) limit NeverStopped steps ends output
 
 -- the text of a value with which main ends at once
 abbrev EndsWith : Source → List ℕ → Type 0
@@ -262,7 +258,7 @@ pub record PreludeCounts : Type 0 where
 
 -- the start call costs none
 abbrev pub StartCostsNothing : Type 0
-StartCostsNothing = IsRunOf names (module_trees (modules nothing nothing)) 0 none_stopped [] (Ended (codes "'no'") ∷ []) (line (codes "0 ended 'no'"))
+StartCostsNothing = IsRunOf names (module_trees (modules nothing nothing)) 0 NeverStopped [] (Ended (codes "'no'") ∷ []) (line (codes "0 ended 'no'"))
 
 -- two processes
 
@@ -277,7 +273,7 @@ child = receive_one (PVar 0) (display (SVar 0))
 -- a spawn, a send to the child, its take and its print, and both ends
 abbrev pub ParentAndChild : Type 0
 ParentAndChild =
-    IsRunOf names (module_trees (modules parent child)) limit none_stopped (event 0 0 ∷ event 0 1 ∷ took 1 1 ∷ event 1 2 ∷ []) (Ended (codes "8") ∷ Ended (codes "'true'") ∷ [])
+    IsRunOf names (module_trees (modules parent child)) limit NeverStopped (event 0 0 ∷ event 0 1 ∷ took 1 1 ∷ event 1 2 ∷ []) (Ended (codes "8") ∷ Ended (codes "'true'") ∷ [])
     (line (codes "8") ++ line (codes "0 ended 8") ++ line (codes "1 ended 'true'"))
 
 -- what is no run
