@@ -4,3 +4,4 @@ pub mod Meanings
 pub mod Resolving
 pub mod Rules
 pub mod Runs
+pub mod MainLemmas

@@ -2,4 +2,6 @@ pub mod Bindings
 pub mod Counts
 pub mod Evaluating
 pub mod Lists
+pub mod Running
 pub mod Texts
+pub mod Written

@@ -2,17 +2,23 @@
 use Rattle.std.specs.Prelude.{◌≡◌, ℕ, List, [], ◌∷◌, ◌++◌, map, true}
 use Rattle.hy_terms.specs.Term.{Term}
 use Rattle.hy_terms.specs.Term as term
+use Rattle.hy_terms.specs.TermText.{term_text}
+use Rattle.hy_core.specs.Alone.{lines_of}
 use Rattle.hy_core.specs.Built.{IsBuilt}
-use Rattle.hy_core.specs.BuiltIn.{truth}
+use Rattle.hy_core.specs.BuiltIn.{own_atoms, truth}
 use Rattle.hy_core.specs.Computation.{Input, Outcome, Values, Raised}
 use Rattle.hy_core.specs.Evaluation.{Evaluated, Wait}
 use Rattle.hy_core.specs.Event.{Event, Printed}
 use Rattle.hy_core.specs.Match.{Env, Empty, Bound}
 use Rattle.hy_core.specs.Meaning.{meaning}
+use Rattle.hy_core.specs.Output.{outcome_line}
 use Rattle.hy_core.specs.Resolve.{Names, Place}
 use Rattle.hy_core.specs.Resolved.{FunctionTree}
 use Rattle.hy_core.specs.declared.class.Class.{Class}
 use Rattle.hy_core.specs.declared.class.Class.TheVariants.{Error}
+use Rattle.hy_core.specs.declared.end.End.{End}
+use Rattle.hy_core.specs.declared.end.End.TheVariants as ends
+use Rattle.hy_core.specs.declared.end.End.TheVariants.{Ended}
 use Rattle.hy_core.specs.declared.tree.Expr.{Expr}
 use Rattle.hy_core.specs.declared.tree.Expr.TheVariants as e
 use Rattle.hy_core.specs.declared.tree.FunName.{FunName}
@@ -80,3 +86,29 @@ IsCall atoms bound _ = ⊥
 -- what a call comes to, whatever the numbers of its module and its name
 abbrev pub EvaluatesCall : List Expr → List Binding → List Value → List Value → Ending → Type 0
 EvaluatesCall args bindings before now ending = (m k : ℕ) → Evaluates (e.Call (e.Atom m) (e.Atom k) args) bindings before now ending
+
+-- ---- what is written
+
+-- the text of a value, and of a reason
+abbrev pub value_text : Value → List ℕ
+value_text value = term_text own_atoms (term_of value)
+
+abbrev pub reason_text : Reason → List ℕ
+reason_text reason = term_text own_atoms (reason_of reason)
+
+abbrev pub end_of : Ending → End
+end_of (Gives value) = Ended (value_text value)
+end_of (Raises reason) = ends.Raised Error (reason_text reason)
+
+-- the status of the program for an ending
+abbrev pub status_of : Ending → ℕ
+status_of (Gives value) = 0
+status_of (Raises reason) = 1
+
+-- what was displayed, each text on a line of its own
+abbrev pub printed_lines : List Value → List ℕ
+printed_lines values = lines_of (map value_text values)
+
+-- the output of the one process: what it displayed, and then its outcome line
+abbrev pub output_of : List Value → Ending → List ℕ
+output_of values ending = printed_lines values ++ outcome_line 0 (end_of ending)

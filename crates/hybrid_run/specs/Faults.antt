@@ -21,3 +21,9 @@ text_of_fault Memory files = line (codes "hyb: out of memory")
 abbrev pub IsOfFiles : TopFault → ℕ → Type 0
 IsOfFiles (Read file) count = file < count
 IsOfFiles _ count = Unit {0}
+
+-- what may come while the output is written
+abbrev pub IsOfOutput : TopFault → Type 0
+IsOfOutput Write = Unit {0}
+IsOfOutput Memory = Unit {0}
+IsOfOutput _ = ⊥

@@ -1,16 +1,18 @@
 ghost use Rattle.std.specs.Prelude.{◌≡◌, ℕ, List, [], ◌∷◌, ◌++◌, Contains, IfOk, OnOk, Some};
-ghost use Rattle.hy_core.specs.Built.{IsBuilt};
+ghost use Rattle.hy_core.specs.Built.{IsBuilt, IsBuiltModule};
 ghost use Rattle.hy_core.specs.BuiltIn.{answer};
 ghost use Rattle.hy_core.specs.Evaluation.{answer_end};
 ghost use Rattle.hy_core.specs.Match.{lookup};
 ghost use Rattle.hy_core.specs.declared.bif.Bif.TheVariants.{Add};
 ghost use Rattle.hybrid_run.specs.declared.value.Ending.TheVariants.{Gives};
 ghost use Rattle.hybrid_run.specs.declared.value.Value.TheVariants.{True};
+ghost use Rattle.hybrid_run.specs.Headline.{HasRun};
 ghost use Rattle.hybrid_run.specs.Arithmetic.{term_of, outcome_of, env_of, variables_of, Evaluates, EvaluatesUnder, EvaluatesCall, IsCall};
 
 use crate::value::{Ending, Reason, Value};
-use hy_core::Expr;
+use hy_core::{Expr, Module};
 use hy_terms::Memory;
+use std::alloc::Global;
 
 /// A variable and what it is bound to.
 #[derive(Clone, Copy, Debug, PartialEq, Eq)]
@@ -22,6 +24,27 @@ pub struct Binding {
 const LEAST: i64 = -(1 << 59);
 
 const GREATEST: i64 = (1 << 59) - 1;
+
+/// What a module displays, in order, and how it ends.
+#[derive(Drop)]
+pub struct Outcome {
+    pub printed: Vec<Value>,
+    pub ending: Ending,
+}
+
+/// Runs the one function of a module.
+pub fn evaluate_module(alloc: Global, module: &Module) -> Result<Outcome, Memory>
+    requires { IsBuiltModule module.now }
+    ensures { IfOk result (λ outcome. HasRun module.now outcome.printed.items outcome.ending) }
+{
+    let mut env = Vec::new(alloc);
+    let mut printed = Vec::new(alloc);
+    let [main] = module.functions.as_slice() else {
+        unreachable!()
+    };
+    let ending = evaluate(&main.body, &mut env, &mut printed)?;
+    Ok(Outcome { printed, ending })
+}
 
 /// Evaluates an expression of the arithmetic forms, under its bindings, the last of them innermost.
 /// What it displays is appended to `printed`, in order.

@@ -18,6 +18,17 @@ pub enum TopFault {
     Memory,
 }
 
+impl From<Memory> for TopFault {
+    ghost use Rattle.std.specs.Prelude.{◌≡◌};
+    ghost use Rattle.hybrid_run.specs.declared.fault.TopFault.TheVariants as faults;
+
+    ghost from_gives = { λ _ e. e ≡ faults.Memory };
+
+    fn from(_error: Memory) -> TopFault {
+        TopFault::Memory
+    }
+}
+
 /// The line that the program prints for a fault, given its file words.
 pub fn fault_text(alloc: Global, fault: &TopFault, files: &Words) -> Result<Vec<u8>, Memory>
     requires { IsOfFiles fault.now (length files.now) }

@@ -3,6 +3,7 @@
 
 mod evaluate;
 mod fault;
+mod output;
 pub mod outside;
 mod value;
 mod words;
