@@ -1,0 +1,6 @@
+pub mod Lists
+pub mod Words
+pub mod Heaps
+pub mod Stands
+pub mod Names
+pub mod Laws

@@ -1,0 +1,17 @@
+//! Laws of what words stand for. These functions only carry them.
+ghost use Rattle.hy_words.specs.Laws.{GrowingKeepsTerms, OneWordOneTerm, AreaKeepsTerms};
+
+/// What a word stands for stays, whatever is appended to the heap and written into the area.
+pub fn growing_keeps_terms()
+    ensures { GrowingKeepsTerms }
+{}
+
+/// A word stands for one labelled term at most, over one heap and one area.
+pub fn one_word_one_term()
+    ensures { OneWordOneTerm }
+{}
+
+/// A word that isn't private stands for the same labelled term over the heap of each process.
+pub fn area_keeps_terms()
+    ensures { AreaKeepsTerms }
+{}
