@@ -1,4 +1,5 @@
 pub mod AloneLemmas
+pub mod BuiltOf
 pub mod BuiltParts
 pub mod Forms
 pub mod MainLemmas

@@ -2,8 +2,8 @@
 use Rattle.std.specs.Prelude.{◌≡◌, ℕ, Bool, true, false, ◌==◌, ◌||◌, ◌&&◌, nat_le, if◌then◌else◌, List, [], ◌∷◌, Option, Some, None}
 use Rattle.hy_core.specs.declared.token.Word.{Word}
 use Rattle.hy_core.specs.declared.token.Word.TheVariants as w
-use Rattle.hy_core.specs.declared.token.Class.{Class}
-use Rattle.hy_core.specs.declared.token.Class.TheVariants as c
+use Rattle.hy_core.specs.declared.token.ByteClass.{ByteClass}
+use Rattle.hy_core.specs.declared.token.ByteClass.TheVariants as c
 
 -- the mark that is this one byte: ( ) [ ] < > , : / =
 unfoldable pub mark_of : ℕ → Option Word
@@ -21,7 +21,7 @@ mark_of b =
     else None
 
 -- what a byte is that is no mark
-unfoldable pub plain_class : ℕ → Class
+unfoldable pub plain_class : ℕ → ByteClass
 plain_class b =
     if b == 32 || (nat_le 9 b && nat_le b 13) then c.Space
     else if nat_le 48 b && nat_le b 57 then c.Digit
@@ -34,44 +34,44 @@ plain_class b =
     else if b == 45 then c.Minus
     else c.Other
 
-abbrev pub class_by : Option Word → ℕ → Class
+abbrev pub class_by : Option Word → ℕ → ByteClass
 class_by (Some word) b = c.Mark word
 class_by None b = plain_class b
 
 -- what a byte is
-unfoldable pub class_of : ℕ → Class
+unfoldable pub class_of : ℕ → ByteClass
 class_of b = class_by (mark_of b) b
 
 -- a byte that may stand between quotes
 unfoldable pub is_printable : ℕ → Bool
 is_printable b = nat_le 32 b && nat_le b 126
 
-abbrev pub is_digit : Class → Bool
+abbrev pub is_digit : ByteClass → Bool
 is_digit c.Digit = true
 is_digit _ = false
 
-abbrev pub is_lower : Class → Bool
+abbrev pub is_lower : ByteClass → Bool
 is_lower c.Lower = true
 is_lower _ = false
 
 -- a letter, a digit or _
-abbrev pub is_word_part : Class → Bool
+abbrev pub is_word_part : ByteClass → Bool
 is_word_part c.Digit = true
 is_word_part c.Lower = true
 is_word_part c.Capital = true
 is_word_part _ = false
 
 -- what may follow the first byte of a variable
-abbrev pub is_variable_part : Class → Bool
+abbrev pub is_variable_part : ByteClass → Bool
 is_variable_part c.At = true
 is_variable_part k = is_word_part k
 
 -- each byte passes
-abbrev pub Pass : (Class → Bool) → List ℕ → Type 0
+abbrev pub Pass : (ByteClass → Bool) → List ℕ → Type 0
 Pass p [] = Unit {0}
 Pass p (b ∷ bs) = (p (class_of b) ≡ true) × Pass p bs
 
 -- there is no first byte, or it doesn't pass
-abbrev pub Stops : (Class → Bool) → List ℕ → Type 0
+abbrev pub Stops : (ByteClass → Bool) → List ℕ → Type 0
 Stops p [] = Unit {0}
 Stops p (b ∷ bs) = p (class_of b) ≡ false

@@ -5,8 +5,8 @@ use Rattle.std.specs.Str.{bytes_eq}
 use Rattle.hy_core.specs.Bytes.{class_of, is_printable, is_digit, is_lower, is_variable_part, Pass, Stops}
 use Rattle.hy_core.specs.declared.token.Word.{Word}
 use Rattle.hy_core.specs.declared.token.Word.TheVariants as w
-use Rattle.hy_core.specs.declared.token.Class.{Class}
-use Rattle.hy_core.specs.declared.token.Class.TheVariants as c
+use Rattle.hy_core.specs.declared.token.ByteClass.{ByteClass}
+use Rattle.hy_core.specs.declared.token.ByteClass.TheVariants as c
 use Rattle.hy_core.specs.declared.token.Sign.{Sign}
 use Rattle.hy_core.specs.declared.token.Sign.TheVariants as g
 use Rattle.hy_core.specs.declared.token.Token.{Token}
@@ -29,7 +29,7 @@ keyword letters =
     else None
 
 -- the sign that a byte is
-abbrev pub sign_of : Class → Option Sign
+abbrev pub sign_of : ByteClass → Option Sign
 sign_of c.Plus = Some g.Plus
 sign_of c.Minus = Some g.Minus
 sign_of _ = None

@@ -21,5 +21,5 @@ pub use limits::Limits;
 pub use step::{Item, Step};
 pub use tables::Tables;
 pub use text::Text;
-pub use token::{Class as ByteClass, Ending, Lexeme, Sign, Token, Word};
+pub use token::{ByteClass, Ending, Lexeme, Sign, Token, Word};
 pub use tree::{Clause, Expr, FunName, Function, Module, Pattern, Program};

@@ -37,7 +37,7 @@ pub enum Word {
 
 /// What a byte is, where a token may begin.
 #[derive(Clone, Copy, Debug, PartialEq, Eq)]
-pub enum Class {
+pub enum ByteClass {
     /// Bytes 9 to 13, and the space.
     Space,
     Digit,
