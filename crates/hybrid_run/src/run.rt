@@ -16,7 +16,6 @@ use hy_core::Module;
 use std::alloc::Global;
 
 /// Runs the module of a text, and writes its output. Answers the status.
-#[tactic(auto, using(hy_core::proofs::BuiltOf::built_of))]
 pub fn run_text<K: Sink, G: Gate>(
     alloc: Global,
     text: &[u8],

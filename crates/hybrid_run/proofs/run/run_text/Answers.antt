@@ -1,9 +1,13 @@
 use Rattle.std.proofs.Common.{◌≡◌, ℕ, List, Some, refl, sym, subst}
+use Rattle.hy_core.proofs.BuiltOf.{built_of}
 use Rattle.hy_core.specs.Reading.{IsModuleText}
 use Rattle.hy_core.specs.declared.tree.Module.{Module as Tree}
 use Rattle.hybrid_run.specs.Headline.{Ran, Cut}
 use Rattle.hybrid_run.proofs.Evaluating.{if_ok}
 use Rattle.hybrid_run.proofs.run.run_text.Goals as goal
+
+pub run_module-requires-after_bounds : goal.run_module-requires-after_bounds
+run_module-requires-after_bounds g c κs within = built_of c.args.text.now c.in-Ok.tree c.in-Ok.ensures.found
 
 pub returns-in-Ok-clause-ran : goal.returns-in-Ok-clause-ran
 returns-in-Ok-clause-ran g c =
