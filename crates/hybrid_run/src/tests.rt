@@ -54,7 +54,11 @@ fn refused(status: u8, fault: TopFault) -> Finish {
 #[test]
 fn runs_modules(rt: HostRuntime) -> Result<(), Fail> {
     let rows: [(&[u8], &[u8], u8); 5] = [
-        (b"call 'erlang':'display'(call 'erlang':'+'(2,3))", b"5\n0 ended 'true'\n", 0),
+        (
+            b"call 'erlang':'display'(call 'erlang':'+'(2,3))",
+            b"5\n0 ended 'true'\n",
+            0,
+        ),
         (b"let <X> = 2 in call 'erlang':'+'(X,X)", b"0 ended 4\n", 0),
         (
             b"call 'erlang':'+'(call 'erlang':'display'(1),1)",
@@ -138,11 +142,24 @@ fn names_the_file_that_fails(rt: HostRuntime) -> Result<(), Fail> {
 
 #[test]
 fn keeps_what_was_written(rt: HostRuntime) -> Result<(), Fail> {
-    let text = module_of(&rt, b"call 'erlang':'+'(call 'erlang':'display'(10),call 'erlang':'display'(11))")?;
-    let first = run_file(&rt, text.as_slice(), ROOM, Vec::from_slice(rt.alloc(), &[1])?)?;
+    let text = module_of(
+        &rt,
+        b"call 'erlang':'+'(call 'erlang':'display'(10),call 'erlang':'display'(11))",
+    )?;
+    let first = run_file(
+        &rt,
+        text.as_slice(),
+        ROOM,
+        Vec::from_slice(rt.alloc(), &[1])?,
+    )?;
     assert_eq!(rt; first.0, refused(7, TopFault::Write));
     assert_eq!(rt; first.1.bytes(), b"".as_slice());
-    let second = run_file(&rt, text.as_slice(), ROOM, Vec::from_slice(rt.alloc(), &[2])?)?;
+    let second = run_file(
+        &rt,
+        text.as_slice(),
+        ROOM,
+        Vec::from_slice(rt.alloc(), &[2])?,
+    )?;
     assert_eq!(rt; second.0, refused(7, TopFault::Write));
     assert_eq!(rt; second.1.bytes(), b"10\n".as_slice());
     let narrow = run_file(&rt, text.as_slice(), 5, Vec::new(rt.alloc()))?;
@@ -178,7 +195,7 @@ fn nests_up_to_400_levels(rt: HostRuntime) -> Result<(), Fail> {
 /// A module of so many bytes, of which all but few are spaces.
 fn long_text<R: AllocGlobal>(rt: &R, len: usize) -> Result<Vec<u8>, Fail> {
     let mut text = module_of(rt, b"7")?;
-    while text.len() < len {
+    for _ in text.len()..len {
         text.push(b' ')?;
     }
     Ok(text)
