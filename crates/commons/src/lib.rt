@@ -1,0 +1,12 @@
+//! The message area and the log that processes share, by what each pass knows of them.
+#![tactic(auto)]
+
+mod contract;
+mod plain;
+mod plain_calls;
+mod plain_ends;
+mod view;
+
+pub use contract::{AreaFull, Commons, Link, LogFull};
+pub use plain::{Final, PlainCommons, PlainPass};
+pub use view::{Refusal, View};
