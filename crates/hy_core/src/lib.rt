@@ -1,6 +1,24 @@
 //! The syntax tree of a module, its grammar, and what programs mean.
 #![tactic(auto)]
 
+mod bif;
+mod class;
+mod end;
+mod info;
+mod limits;
+mod step;
+mod tables;
+mod text;
+mod token;
 mod tree;
 
-pub use tree::{Expr, FunName, Function, Module};
+pub use bif::Bif;
+pub use class::Class;
+pub use end::{Cause, End};
+pub use info::{FunInfo, SiteInfo, SiteKind};
+pub use limits::Limits;
+pub use step::{Item, Step};
+pub use tables::Tables;
+pub use text::Text;
+pub use token::{ByteClass, Ending, Lexeme, Sign, Token, Word};
+pub use tree::{Clause, Expr, FunName, Function, Module, Pattern, Program};

@@ -1,3 +1,4 @@
+use crate::text::Text;
 use hy_terms::Atoms;
 use sqlite_items::{Boxed, Items};
 
@@ -9,6 +10,7 @@ pub struct FunName {
 }
 
 /// A definition: its parameters are places in the table of variables.
+#[cycle(syntax)]
 #[derive(Drop)]
 pub struct Function {
     pub name: FunName,
@@ -17,11 +19,29 @@ pub struct Function {
 }
 
 /// An expression of Core Erlang. Atoms and variables are places in the tables of the module.
+#[cycle(syntax)]
 #[derive(Drop)]
 pub enum Expr {
     Int(i64),
     Atom(u32),
+    Nil,
+    /// A string that isn't empty: the list of its bytes.
+    Str(Text),
     Var(u32),
+    /// A function's name, as the function of an `apply`.
+    Name(FunName),
+    Tuple {
+        site: u32,
+        parts: Items<Expr>,
+    },
+    /// A list notation. The heads aren't empty, and the tail is no `List`.
+    List {
+        site: u32,
+        heads: Items<Expr>,
+        tail: Boxed<Expr>,
+    },
+    /// Any number of values side by side.
+    Values(Items<Expr>),
     Let {
         vars: Items<u32>,
         value: Boxed<Expr>,
@@ -31,11 +51,74 @@ pub enum Expr {
         first: Boxed<Expr>,
         second: Boxed<Expr>,
     },
+    Case {
+        value: Boxed<Expr>,
+        clauses: Items<Clause>,
+    },
+    Letrec {
+        functions: Items<Function>,
+        body: Boxed<Expr>,
+    },
+    Apply {
+        what: Boxed<Expr>,
+        args: Items<Expr>,
+    },
     Call {
         module: Boxed<Expr>,
         name: Boxed<Expr>,
         args: Items<Expr>,
     },
+    Primop {
+        name: u32,
+        args: Items<Expr>,
+    },
+    Receive {
+        clauses: Items<Clause>,
+        timeout: Boxed<Expr>,
+        body: Boxed<Expr>,
+    },
+    Try {
+        value: Boxed<Expr>,
+        vars: Items<u32>,
+        body: Boxed<Expr>,
+        catch_vars: Items<u32>,
+        catch_body: Boxed<Expr>,
+    },
+    Catch(Boxed<Expr>),
+    Fun {
+        params: Items<u32>,
+        body: Boxed<Expr>,
+    },
+}
+
+/// A pattern of Core Erlang.
+#[derive(Drop)]
+pub enum Pattern {
+    Var(u32),
+    Int(i64),
+    Atom(u32),
+    Nil,
+    /// A string that isn't empty: the list of its bytes.
+    Str(Text),
+    Tuple(Items<Pattern>),
+    /// A list notation. The heads aren't empty, and the tail is no `List`.
+    List {
+        heads: Items<Pattern>,
+        tail: Boxed<Pattern>,
+    },
+    Alias {
+        var: u32,
+        pattern: Boxed<Pattern>,
+    },
+}
+
+/// One way on of a `case` or a `receive`: one pattern for each value, a guard and a body.
+#[cycle(syntax)]
+#[derive(Drop)]
+pub struct Clause {
+    pub patterns: Items<Pattern>,
+    pub guard: Expr,
+    pub body: Expr,
 }
 
 /// A module, with the texts of its atoms and variables in the order in which they are first met.
@@ -46,4 +129,11 @@ pub struct Module {
     pub functions: Items<Function>,
     pub atoms: Atoms,
     pub variables: Atoms,
+}
+
+/// The modules of a program: those that were given, and those that each program has.
+#[derive(Drop)]
+pub struct Program {
+    pub given: Items<Module>,
+    pub prelude: Items<Module>,
 }

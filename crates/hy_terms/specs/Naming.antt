@@ -1,5 +1,5 @@
 -- The number of a text is its place among the texts in the order in which they are met.
-use Rattle.std.specs.Prelude.{ℕ, suc, List, [], ◌∷◌, ◌++◌, length, Option, Some, None, if◌then◌else◌}
+use Rattle.std.specs.Prelude.{◌≡◌, ℕ, suc, ◌≤◌, ◌^◌, List, [], ◌∷◌, ◌++◌, length, slice_get, Option, Some, None, unwrap_or, if◌then◌else◌}
 use Rattle.std.specs.Str.{bytes_eq}
 
 abbrev pub one_on : Option ℕ → Option ℕ
@@ -18,3 +18,12 @@ numbered texts text None = (length texts, texts ++ text ∷ [])
 -- the number of a text, and the table after it
 unfoldable pub named : List (List ℕ) → List ℕ → ℕ × List (List ℕ)
 named texts text = numbered texts text (place_in texts text)
+
+-- the text of a number; one that is not below the length has the empty text
+abbrev pub text_of : List (List ℕ) → ℕ → List ℕ
+text_of texts number = unwrap_or (slice_get texts number) []
+
+-- a table of at most 2^20 texts, each once
+pub record IsTable (texts : List (List ℕ)) : Type 0 where
+  pub few : length texts ≤ 2 ^ 20
+  pub once : (k : ℕ) (text : List ℕ) → slice_get texts k ≡ Some text → place_in texts text ≡ Some k

@@ -2,9 +2,14 @@
 #![tactic(auto)]
 
 mod atoms;
+pub mod laws;
 mod memory;
 mod term;
+mod text;
+mod words;
 
-pub use atoms::Atoms;
+pub use atoms::{AtomFault, Atoms};
 pub use memory::Memory;
 pub use term::{Colour, Labelled, LabelledTerms, Term, Terms};
+pub use text::{push_atom, push_int, push_pid, push_quoted};
+pub use words::Words;

@@ -1,0 +1,12 @@
+pub mod Digits
+pub mod Scopes
+pub mod Scanned
+pub mod ScanLoop
+pub mod ScannedOnly
+pub mod Meaning
+pub mod Tests
+pub mod Moves
+pub mod Exact
+pub mod Growth
+pub mod TokenLoop
+pub mod WholeText

@@ -1,0 +1,22 @@
+-- Trees of the arithmetic part: what they are built of, apart from any text. This project's own.
+use Rattle.std.specs.Prelude.{◌≡◌, ℕ, ◌-◌, ◌^◌, ℤ, pos, neg_ℤ, ◌≤ℤ◌, List, [], ◌∷◌, Some, Contains, slice_get}
+use Rattle.hy_core.specs.Grammar.{call, the_main, the_erlang, the_plus, the_display, main_module}
+use Rattle.hy_core.specs.declared.tables.Tables.{Tables}
+use Rattle.hy_core.specs.declared.tree.Expr.{Expr}
+use Rattle.hy_core.specs.declared.tree.Expr.TheVariants as e
+use Rattle.hy_core.specs.declared.tree.Module.{Module}
+
+-- an expression of the six forms, by the texts of the atoms, where the variables of these numbers are bound
+pub data IsBuilt : List (List ℕ) → List ℕ → Expr → Type 0 where
+  integer : {atoms : List (List ℕ)} {bound : List ℕ} (n : ℤ) → neg_ℤ (pos (2 ^ 59)) ≤ℤ n → n ≤ℤ pos (2 ^ 59 - 1) → IsBuilt atoms bound (e.Int n)
+  variable : {atoms : List (List ℕ)} {bound : List ℕ} (v : ℕ) → Contains bound v → IsBuilt atoms bound (e.Var v)
+  let_in : {atoms : List (List ℕ)} {bound : List ℕ} {x y : Expr} (v : ℕ) → IsBuilt atoms bound x → IsBuilt atoms (v ∷ bound) y → IsBuilt atoms bound (e.Let (v ∷ []) x y)
+  do_both : {atoms : List (List ℕ)} {bound : List ℕ} {x y : Expr} → IsBuilt atoms bound x → IsBuilt atoms bound y → IsBuilt atoms bound (e.Do x y)
+  sum : {atoms : List (List ℕ)} {bound : List ℕ} {x y : Expr} (module_atom name_atom : ℕ) → slice_get atoms module_atom ≡ Some the_erlang → slice_get atoms name_atom ≡ Some the_plus
+      → IsBuilt atoms bound x → IsBuilt atoms bound y → IsBuilt atoms bound (call module_atom name_atom (x ∷ y ∷ []))
+  display : {atoms : List (List ℕ)} {bound : List ℕ} {x : Expr} (module_atom name_atom : ℕ) → slice_get atoms module_atom ≡ Some the_erlang → slice_get atoms name_atom ≡ Some the_display
+      → IsBuilt atoms bound x → IsBuilt atoms bound (call module_atom name_atom (x ∷ []))
+
+-- a module of one function 'main'/0, whose body is such an expression and closed
+pub data IsBuiltModule : Module → Type 0 where
+  built : {name main : ℕ} {x : Expr} {s : Tables} → slice_get s.atoms main ≡ Some the_main → IsBuilt s.atoms [] x → IsBuiltModule (main_module name main x s)

@@ -1,0 +1,37 @@
+-- Runs of a program on the copying machine: this project's own.
+use Rattle.std.specs.Prelude.{◌≡◌, ℕ, ◌==◌, ◌&&◌, if◌then◌else◌, List, [], ◌∷◌, codes, Option, Some, None}
+use Rattle.std.specs.Str.{bytes_eq}
+use Rattle.hy_terms.specs.Term.{Term}
+use Rattle.hy_terms.specs.Naming.{one_on, text_of}
+use Rattle.hy_terms.specs.TermText.{term_text}
+use Rattle.hy_core.specs.declared.end.Cause.{Cause}
+use Rattle.hy_core.specs.declared.end.End.{End}
+use Rattle.hy_core.specs.declared.info.FunInfo.{FunInfo}
+use Rattle.hy_core.specs.declared.step.Step.{Step}
+use Rattle.hy_core.specs.Computation.{Input}
+use Rattle.hy_core.specs.Evaluation.{Evaluated, evaluated, body_of, Top, accepts}
+use Rattle.hy_core.specs.Machine.{Process, Configuration, after_steps, start, IsFull}
+use Rattle.hy_core.specs.Output.{run_output}
+use Rattle.hy_core.specs.Resolved.{FunctionTree}
+
+-- the number of 'main'/0 of a module
+abbrev pub main_number : (atoms : List (List ℕ)) → List FunInfo → (module_name : ℕ) → Option ℕ
+main_number atoms [] m = None
+main_number atoms (i ∷ is) m =
+    if (i.module == m) && (bytes_eq (text_of atoms i.name.name) (codes "main") && (i.name.arity == 0)) then Some 0
+    else one_on (main_number atoms is m)
+
+-- limit: the calls of each process
+module _ (program : List FunctionTree) (atoms : List (List ℕ)) (limit : ℕ) where
+  -- what a process does: its function's body under its arguments; the start call costs no call
+  abbrev pub runs_of : (pid function : ℕ) → List Term → List (Input Term) → Evaluated program atoms pid
+  runs_of pid function arguments inputs = evaluated program atoms pid limit (body_of program atoms pid (Top function) arguments) inputs
+
+  -- the configuration after a run of the program
+  abbrev pub after_run : (main : ℕ) → List Step → Option (Configuration Term)
+  after_run main steps = after_steps runs_of (accepts atoms) (λ wait. wait.timeout) (term_text atoms) steps (Some (start main))
+
+  -- a full run of the program with these ends, and its output
+  pub record IsFullRun (stopped : Process Term → Cause → Type 0) (main : ℕ) (steps : List Step) (ends : List End) (output : List ℕ) : Type 0 where
+    pub full : IsFull runs_of (accepts atoms) (λ wait. wait.timeout) (term_text atoms) stopped main steps ends
+    pub writes : run_output full.last ends ≡ output

@@ -1,0 +1,59 @@
+-- Tokens with what a refusal looks at. Levels and ranges are this project's own.
+use Rattle.std.specs.Prelude.{ℕ, ◌+◌, ◌-◌, ◌*◌, ◌≤◌, ◌<◌, ◌^◌, ℤ, pos, neg_ℤ, List, [], ◌∷◌, map}
+use Rattle.std.specs.List.{AllByRecursion}
+use Rattle.hy_core.specs.declared.token.Sign.{Sign}
+use Rattle.hy_core.specs.declared.token.Sign.TheVariants as g
+use Rattle.hy_core.specs.declared.token.Token.{Token}
+use Rattle.hy_core.specs.declared.token.Token.TheVariants as t
+
+-- digits as a number, behind those that give the first number
+abbrev pub value_behind : ℕ → List ℕ → ℕ
+value_behind n [] = n
+value_behind n (d ∷ ds) = value_behind (10 * n + (d - 48)) ds
+
+-- the number that digits spell
+abbrev pub value : List ℕ → ℕ
+value = value_behind 0
+
+-- an integer by its sign and its size
+abbrev pub number : Sign → ℕ → ℤ
+number g.Minus n = neg_ℤ (pos n)
+number _ n = pos n
+
+-- the integer is one from -2^59 to 2^59 - 1
+abbrev pub IsInRange : Sign → ℕ → Type 0
+IsInRange g.Minus n = n ≤ 2 ^ 59
+IsInRange _ n = n < 2 ^ 59
+
+-- whether a number at a token is a value of the program, which has a range
+pub data Role : Type 0 where
+  Plain : Role
+  Value : Role
+
+-- a token, with the level of the construct that it begins, or 0 where it begins none
+pub record Marked : Type 0 where
+  pub level : ℕ
+  pub role : Role
+  pub token : Token
+
+-- a token that begins an expression of level n
+abbrev pub at : ℕ → Token → Marked
+at n k = record { level = n; role = Value; token = k }
+
+-- a token that begins none
+abbrev pub plain : Token → Marked
+plain k = record { level = 0; role = Plain; token = k }
+
+abbrev pub Fits : Role → Token → Type 0
+Fits Value (t.Integer sign digits) = IsInRange sign (value digits)
+Fits _ _ = Unit {0}
+
+-- at most 400 levels, and a number in its range
+abbrev pub IsSound : Marked → Type 0
+IsSound m = (m.level ≤ 400) × Fits m.role m.token
+
+abbrev pub AreSound : List Marked → Type 0
+AreSound ms = AllByRecursion IsSound ms
+
+abbrev pub tokens_of : List Marked → List Token
+tokens_of ms = map (λ m. m.token) ms

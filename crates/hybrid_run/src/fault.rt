@@ -1,0 +1,55 @@
+ghost use Rattle.std.specs.Prelude.{◌≡◌, ◌++◌, length, IfOk, OnOk};
+ghost use Rattle.hybrid_run.specs.Faults.{text_of_fault, read_fault_text, IsOfFiles};
+
+use hy_terms::{Memory, Words};
+use std::alloc::Global;
+
+/// Why the program answers no run. A file is a place among the file words.
+#[derive(Clone, Copy, Debug, PartialEq, Eq)]
+pub enum TopFault {
+    /// The words aren't those of the command line.
+    Usage,
+    /// A file's text couldn't be read.
+    Read { file: u32 },
+    /// A text is outside what the program runs so far.
+    NotBuilt,
+    /// Standard output failed.
+    Write,
+    Memory,
+}
+
+impl From<Memory> for TopFault {
+    ghost use Rattle.std.specs.Prelude.{◌≡◌};
+    ghost use Rattle.hybrid_run.specs.declared.fault.TopFault.TheVariants as faults;
+
+    ghost from_gives = { λ _ e. e ≡ faults.Memory };
+
+    fn from(_error: Memory) -> TopFault {
+        TopFault::Memory
+    }
+}
+
+/// The line that the program prints for a fault, given its file words.
+pub fn fault_text(alloc: Global, fault: &TopFault, files: &Words) -> Result<Vec<u8>, Memory>
+    requires { IsOfFiles fault.now (length files.now) }
+    ensures { IfOk result (λ text. text.items ≡ text_of_fault fault.now files.now) }
+{
+    let mut text = Vec::new(alloc);
+    match fault {
+        TopFault::Usage => text.extend_from_slice(b"hyb: usage\n")?,
+        TopFault::Read { file } => push_read_fault(&mut text, files.word(*file as u64))?,
+        TopFault::NotBuilt => text.extend_from_slice(b"hyb: not built\n")?,
+        TopFault::Write => text.extend_from_slice(b"hyb: write failed\n")?,
+        TopFault::Memory => text.extend_from_slice(b"hyb: out of memory\n")?,
+    }
+    Ok(text)
+}
+
+fn push_read_fault(text: &mut Vec<u8>, name: &str) -> Result<(), Memory>
+    ensures { OnOk result (text.new.items ≡ text.old.items ++ read_fault_text name.now) }
+{
+    text.extend_from_slice(b"hyb: cannot read ")?;
+    text.extend_from_slice(name.as_bytes())?;
+    text.push(b'\n')?;
+    Ok(())
+}
