@@ -1,6 +1,6 @@
+pub mod DeclaredLabelled
 pub mod DeclaredLemmas
 mod KeyLemmas
-pub mod LabelLemmas
+pub mod LabelledLemmas
 pub mod NamingLemmas
 pub mod OrderLemmas
-pub mod TermLemmas

@@ -1,11 +1,11 @@
 -- Terms of which the laws compute texts and orders.
 use Rattle.std.specs.Prelude.{ℕ, Bool, true, ◌&&◌, List, [], ◌∷◌, pos, negsuc, codes}
 use Rattle.std.specs.Ordering.{is_lt}
+use Rattle.hy_terms.specs.Labelled.{Labelled, labels_of}
+use Rattle.hy_terms.specs.Labelled as l
 use Rattle.hy_terms.specs.Term.{Term, Int, Atom, Pid, Nil, Cons, Tuple, terms_of}
 use Rattle.hy_terms.specs.TermOrder.{compare}
 use Rattle.hy_terms.specs.declared.term.Colour.TheVariants.{Private, Shared}
-use Rattle.hy_terms.specs.declared.term.Labelled.{Labelled}
-use Rattle.hy_terms.specs.declared.term.Labelled.TheVariants as l
 
 -- a table of the atoms 'b', 'it's', 'a' and, a second time, 'b'
 abbrev pub some_atoms : List (List ℕ)
@@ -40,4 +40,4 @@ shared_cell = l.Cons 2 Shared (l.Atom 2) l.Nil
 
 -- a private tuple of three, which holds one private cell twice: 4 + 3 + 3 private words
 abbrev pub private_tuple : Labelled
-private_tuple = l.Tuple 0 Private (private_cell ∷ private_cell ∷ shared_cell ∷ [])
+private_tuple = l.Tuple 0 Private (labels_of (private_cell ∷ private_cell ∷ shared_cell ∷ []))

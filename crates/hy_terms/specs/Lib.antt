@@ -1,8 +1,8 @@
 pub mod Examples
+pub mod Labelled
 pub mod Naming
 pub mod Printed
 pub mod Term
 pub mod TermOrder
 pub mod TermText
-pub mod Terms
 pub mod Texts

@@ -3,17 +3,23 @@ ghost use Rattle.std.specs.Prelude.{◌≡◌, ◌↔◌, ℕ, List, IsTrue, cod
 ghost use Rattle.std.specs.Cmp.{IsTotalOrder};
 ghost use Rattle.std.specs.declared.cmp.Ordering.TheVariants.{Equal};
 ghost use Rattle.hy_terms.specs.Examples.{some_atoms, mixed_tuple, ascending_terms, is_ascending, private_tuple};
+ghost use Rattle.hy_terms.specs.Labelled.{Labelled, labelled_of, erase, shared, private_words, IsShared, IsLabelled};
 ghost use Rattle.hy_terms.specs.TermOrder.{compare};
-ghost use Rattle.hy_terms.specs.Terms.{erase, shared, private_words, IsShared, IsLabelled};
 ghost use Rattle.hy_terms.specs.TermText.{term_text};
-ghost use Rattle.hy_terms.specs.declared.term.Labelled.{Labelled};
 ghost use Rattle.hy_terms.specs.Term.{Term, term_of};
+ghost use Rattle.hy_terms.specs.declared.term.Labelled.{Labelled as DeclaredLabelled};
 ghost use Rattle.hy_terms.specs.declared.term.Term.{Term as DeclaredTerm};
 
 /// The terms that definitions compute with are the declared ones.
 pub fn terms_are_declared()
     ensures each { (term : Term) → (x : DeclaredTerm) × (term_of x ≡ term) }
     ensures once { (x y : DeclaredTerm) → term_of x ≡ term_of y → x ≡ y }
+{}
+
+/// The labelled terms that definitions compute with are the declared ones.
+pub fn labelled_terms_are_declared()
+    ensures each { (term : Labelled) → (x : DeclaredLabelled) × (labelled_of x ≡ term) }
+    ensures once { (x y : DeclaredLabelled) → labelled_of x ≡ labelled_of y → x ≡ y }
 {}
 
 /// The order of terms is total, over each table of atoms.

@@ -1,10 +1,10 @@
 -- Laws of what words stand for.
 use Rattle.std.proofs.Common.{◌≡◌, ◌≢◌, ℕ, ℤ, ◌+◌, ◌<◌, ◌≤◌, ◌^◌, List, [], ◌∷◌, length, sym, refl, ap, ◌∙◌, subst, arith}
 use Rattle.std.specs.Prelude.{slice_index, pos, negsuc}
+use Rattle.hy_terms.specs.Labelled.{Labelled, labels_of}
+use Rattle.hy_terms.specs.Labelled as l
 use Rattle.hy_terms.specs.declared.term.Colour.{Colour}
 use Rattle.hy_terms.specs.declared.term.Colour.TheVariants.{Private, Shared}
-use Rattle.hy_terms.specs.declared.term.Labelled.{Labelled}
-use Rattle.hy_terms.specs.declared.term.Labelled.TheVariants as l
 use Rattle.hy_words.specs.Lists.{Grown}
 use Rattle.hy_words.specs.Words.{tag_of, number_word, atom_word_of, pid_word_of, tuple_header_of, cons_header_of, IsNumber}
 use Rattle.hy_words.specs.Stands.{cell_word_of, words_of, MayHold, Stands, PartsStand, of_int, of_atom, of_pid, of_nil, of_cons, of_tuple, no_parts, more_parts}
@@ -84,7 +84,7 @@ stands_nil heap area t w _ e = absurd (omega arith)
 pub data IsNode (heap area : List ℕ) (colour : Colour) (place : ℕ) : Labelled → Type 0 where
   a_cons : (site : ℕ) (head tail : Labelled) → site < 2 ^ 28 → slice_index (words_of colour heap area) place ≡ cons_header_of site → PartsStand heap area colour (place + 1) (head ∷ tail ∷ []) → IsNode heap area colour place (l.Cons site colour head tail)
   a_tuple : (site : ℕ) (parts : List Labelled) → site < 2 ^ 28 → length parts < 2 ^ 28 → slice_index (words_of colour heap area) place ≡ tuple_header_of (length parts) site → PartsStand heap area colour (place + 1) parts
-      → IsNode heap area colour place (l.Tuple site colour parts)
+      → IsNode heap area colour place (l.Tuple site colour (labels_of parts))
 
 same_cell : (c d : Colour) (x y : ℕ) → cell_word_of c x ≡ cell_word_of d y → (c ≡ d) × (x ≡ y)
 same_cell Private Private x y e = (refl, omega arith)
@@ -98,7 +98,7 @@ stands_cell heap area t w colour place (of_cons c site k head tail r h q) e =
     subst (λ (x : Colour). IsNode heap area x place (l.Cons site c head tail)) s.0 (subst (λ (x : ℕ). IsNode heap area c x (l.Cons site c head tail)) s.1 (a_cons site head tail r h q))
 stands_cell heap area t w colour place (of_tuple c site k parts r o h q) e =
     let s = same_cell c colour k place e in
-    subst (λ (x : Colour). IsNode heap area x place (l.Tuple site c parts)) s.0 (subst (λ (x : ℕ). IsNode heap area c x (l.Tuple site c parts)) s.1 (a_tuple site parts r o h q))
+    subst (λ (x : Colour). IsNode heap area x place (l.Tuple site c (labels_of parts))) s.0 (subst (λ (x : ℕ). IsNode heap area c x (l.Tuple site c (labels_of parts))) s.1 (a_tuple site parts r o h q))
 stands_cell heap area t w colour place _ e = let c = (cell_high colour place).0 in absurd (omega arith)
 
 number_same : (m n : ℤ) → IsNumber m → IsNumber n → number_word m ≡ number_word n → m ≡ n
@@ -126,7 +126,7 @@ one_cons heap area c site place head tail u r h one (a_cons s x y o k q) =
     ap (λ (z : ℕ). l.Cons z c head tail) same ∙ (ap (λ (z : Labelled). l.Cons s c z tail) (ap (first head) parts) ∙ ap (λ (z : Labelled). l.Cons s c x z) (ap (second head) parts))
 one_cons heap area c site place head tail u r h one (a_tuple s parts o b k q) = let z : cons_header_of site ≡ tuple_header_of (length parts) s = sym h ∙ k in absurd (omega arith)
 
-one_tuple : (heap area : List ℕ) (c : Colour) (site place : ℕ) (ts : List Labelled) (u : Labelled) → site < 2 ^ 28 → length ts < 2 ^ 28 → slice_index (words_of c heap area) place ≡ tuple_header_of (length ts) site → OneList heap area c (place + 1) ts → IsNode heap area c place u → l.Tuple site c ts ≡ u
+one_tuple : (heap area : List ℕ) (c : Colour) (site place : ℕ) (ts : List Labelled) (u : Labelled) → site < 2 ^ 28 → length ts < 2 ^ 28 → slice_index (words_of c heap area) place ≡ tuple_header_of (length ts) site → OneList heap area c (place + 1) ts → IsNode heap area c place u → l.Tuple site c (labels_of ts) ≡ u
 one_tuple heap area c site place ts u r b h one (a_tuple s us o d k q) =
     let n : ℕ = length ts in
     let m : ℕ = length us in
@@ -135,7 +135,7 @@ one_tuple heap area c site place ts u r b h one (a_tuple s us o d k q) =
     let d' : m < 2 ^ 28 = d in
     let long : n ≡ m = omega arith in
     let same : site ≡ s = omega arith in
-    ap (λ (x : ℕ). l.Tuple x c ts) same ∙ ap (λ (xs : List Labelled). l.Tuple s c xs) (one us q long)
+    ap (λ (x : ℕ). l.Tuple x c (labels_of ts)) same ∙ ap (λ (xs : List Labelled). l.Tuple s c (labels_of xs)) (one us q long)
 one_tuple heap area c site place ts u r b h one (a_cons s x y o k q) = let z : tuple_header_of (length ts) site ≡ cons_header_of s = sym h ∙ k in absurd (omega arith)
 
 behind : (heap area : List ℕ) (c : Colour) (place : ℕ) (x : Labelled) (xs : List Labelled) → PartsStand heap area c place (x ∷ xs) → Stands heap area x (slice_index (words_of c heap area) place) × PartsStand heap area c (place + 1) xs

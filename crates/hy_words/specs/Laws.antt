@@ -1,6 +1,6 @@
 -- Laws of what words stand for.
 use Rattle.std.specs.Prelude.{◌≡◌, ◌≢◌, ℕ, List}
-use Rattle.hy_terms.specs.declared.term.Labelled.{Labelled}
+use Rattle.hy_terms.specs.Labelled.{Labelled}
 use Rattle.hy_words.specs.Lists.{Grown}
 use Rattle.hy_words.specs.Words.{tag_of}
 use Rattle.hy_words.specs.Stands.{Stands}

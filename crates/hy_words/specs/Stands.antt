@@ -1,9 +1,9 @@
 -- What a word stands for, over the words of one heap and one area. The project's own.
 use Rattle.std.specs.Prelude.{◌≡◌, ◌≢◌, ℕ, ℤ, ◌+◌, ◌<◌, ◌^◌, List, [], ◌∷◌, length, slice_index}
+use Rattle.hy_terms.specs.Labelled.{Labelled, labels_of}
+use Rattle.hy_terms.specs.Labelled as l
 use Rattle.hy_terms.specs.declared.term.Colour.{Colour}
 use Rattle.hy_terms.specs.declared.term.Colour.TheVariants.{Private, Shared}
-use Rattle.hy_terms.specs.declared.term.Labelled.{Labelled}
-use Rattle.hy_terms.specs.declared.term.Labelled.TheVariants as l
 use Rattle.hy_words.specs.Words.{IsNumber, tag_of, number_word, atom_word_of, pid_word_of, private_word_of, area_word_of, tuple_header_of, cons_header_of}
 
 -- the word of a cell of this colour
@@ -31,7 +31,7 @@ mutual
     of_cons : (colour : Colour) (site place : ℕ) (head tail : Labelled) → site < 2 ^ 28 → slice_index (words_of colour heap area) place ≡ cons_header_of site
         → PartsStand heap area colour (place + 1) (head ∷ tail ∷ []) → Stands heap area (l.Cons site colour head tail) (cell_word_of colour place)
     of_tuple : (colour : Colour) (site place : ℕ) (parts : List Labelled) → site < 2 ^ 28 → length parts < 2 ^ 28 → slice_index (words_of colour heap area) place ≡ tuple_header_of (length parts) site
-        → PartsStand heap area colour (place + 1) parts → Stands heap area (l.Tuple site colour parts) (cell_word_of colour place)
+        → PartsStand heap area colour (place + 1) parts → Stands heap area (l.Tuple site colour (labels_of parts)) (cell_word_of colour place)
 
   -- the words of a cell of this colour, from this place on, stand for the parts in order
   pub data PartsStand (heap area : List ℕ) : Colour → ℕ → List Labelled → Type 0 where

@@ -1,7 +1,7 @@
 ghost use Rattle.std.specs.Prelude.{◌≡◌, ℕ, ◌+◌, ◌*◌, ◌^◌, ◌<◌, List};
 ghost use Rattle.hy_words.specs.Words.{IsNumber, IsScalar, IsHeader, word_of, tag_of, payload_of, number_of, number_word, atom_word_of, pid_word_of, private_word_of, area_word_of, tuple_header_of, cons_header_of, entry_header_of, tag_of_entry, size_of, site_of, following};
 ghost use Rattle.hy_words.specs.Stands.{Stands};
-ghost use Rattle.hy_terms.specs.declared.term.Labelled.TheVariants as l;
+ghost use Rattle.hy_terms.specs.Labelled as l;
 
 use crate::kind::Entry;
 

@@ -1,4 +1,4 @@
-use Rattle.hy_terms.proofs.LabelLemmas.{private_words-IsShared}
+use Rattle.hy_terms.proofs.LabelledLemmas.{private_words-IsShared}
 use Rattle.hy_terms.proofs.laws.shared_nodes.Goals as goal
 
 pub returns : goal.returns

@@ -1,5 +1,4 @@
-use Rattle.hy_terms.proofs.LabelLemmas.{IsShared-shared, IsLabelled-shared}
-use Rattle.hy_terms.proofs.TermLemmas.{erase-shared, private_words-shared, shared-same}
+use Rattle.hy_terms.proofs.LabelledLemmas.{erase-shared, private_words-shared, shared-same, IsShared-shared, IsLabelled-shared}
 use Rattle.hy_terms.proofs.laws.sharing.Goals as goal
 
 pub returns-clause-erased : goal.returns-clause-erased

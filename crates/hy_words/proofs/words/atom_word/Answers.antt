@@ -1,5 +1,5 @@
 use Rattle.std.proofs.Common.{◌≡◌, ◌+◌, ◌*◌, arith, subst, sym, rules}
-use Rattle.hy_terms.specs.declared.term.Labelled.TheVariants as l
+use Rattle.hy_terms.specs.Labelled as l
 use Rattle.hy_words.specs.Words.{atom_word_of}
 use Rattle.hy_words.specs.Stands.{Stands, of_atom}
 use Rattle.hy_words.proofs.words.atom_word.Goals as goal

@@ -1,5 +1,5 @@
 use Rattle.std.proofs.Common.{◌≡◌, ◌+◌, ◌*◌, rules, subst, sym}
-use Rattle.hy_terms.specs.declared.term.Labelled.TheVariants as l
+use Rattle.hy_terms.specs.Labelled as l
 use Rattle.hy_words.specs.Words.{number_word}
 use Rattle.hy_words.specs.Stands.{Stands, of_int}
 use Rattle.hy_words.proofs.words.int_word.Goals as goal
