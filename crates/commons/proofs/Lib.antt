@@ -14,3 +14,4 @@ pub mod PlainSteps
 pub mod PlainBirths
 pub mod PlainOpens
 pub mod PlainCloses
+pub mod Entries

@@ -4,14 +4,14 @@ use Rattle.std.specs.Prelude.{slice_index, pos, negsuc, if◌then◌else◌}
 use native.Mathlib.Decide.{ℕ_discrete, dec_lt}
 use mathlib.Core.Logic.{dite}
 use Rattle.hy_terms.specs.declared.term.Colour.TheVariants.{Shared}
-use Rattle.hy_terms.specs.declared.term.Labelled.{Labelled}
-use Rattle.hy_terms.specs.declared.term.Labelled.TheVariants as l
+use Rattle.hy_terms.specs.Labelled.{Labelled, labels_of}
+use Rattle.hy_terms.specs.Labelled as l
 use Rattle.hy_words.specs.Lists.{Grown}
 use Rattle.hy_words.specs.Words.{tag_of, payload_of, size_of, site_of, area_word_of, word_of, number_word, number_of, payload_of_number, IsNumber, IsHeader, IsScalar, IsValue, following, tuple_header_of, cons_header_of}
 use Rattle.hy_words.specs.Stands.{Stands, PartsStand, of_int, of_atom, of_pid, of_nil, of_cons, of_tuple, no_parts, more_parts}
 use Rattle.hy_words.proofs.Standing.{stands_grows}
 use Rattle.commons.specs.Area.{IsTermCell, IsEntryCell, StandsInArea, IsClosed}
-use Rattle.commons.specs.Log.{LogEvent, Sent, Spawned, Printed, Tells}
+use Rattle.commons.specs.Log.{LogEvent, LoggedSend, LoggedSpawn, LoggedPrint, Tells}
 use Rattle.commons.proofs.Cells.{value_not_private, following_tuple, following_cons, following_entry, value_at, grown_same}
 
 number_back : (p : ℕ) → p < 2 ^ 60 → IsNumber (number_of p) × (payload_of_number (number_of p) ≡ p)
@@ -65,7 +65,7 @@ cell_stands area cell h each =
     let f : following w ≡ n = following_tuple w e in
     let r = parts_of area n (cell + 1) (λ k i. both k (subst (λ (m : ℕ). k < m) (sym f) i)) in
     let made : w ≡ tuple_header_of n site = omega arith in
-    (l.Tuple site Shared r.0, of_tuple Shared site cell r.0 site_low (subst (λ (m : ℕ). m < 2 ^ 28) (sym r.1) n_low) (subst (λ (m : ℕ). w ≡ tuple_header_of m site) (sym r.1) made) r.2))
+    (l.Tuple site Shared (labels_of r.0), of_tuple Shared site cell r.0 site_low (subst (λ (m : ℕ). m < 2 ^ 28) (sym r.1) n_low) (subst (λ (m : ℕ). w ≡ tuple_header_of m site) (sym r.1) made) r.2))
     (λ n. let e : tag_of w ≡ 8 = omega arith in
     let none : size_of w ≡ 0 = h.0.header.4 e in
     let f : following w ≡ 2 = following_cons w e in
@@ -105,7 +105,7 @@ entry_tells area cell closed h =
     let one : tag_of first ≡ 3 = s.1 in
     let two : tag_of second ≡ 3 = s.2 in
     let m = closed.messages cell h e in
-    (Sent (payload_of first) (payload_of second) m.0, (omega arith, omega arith, omega arith, m.1)))
+    (LoggedSend (payload_of first) (payload_of second) m.0, (omega arith, omega arith, omega arith, m.1)))
     (λ n. dite (ℕ_discrete (tag_of w) 10)
     (λ e. let s = h.0.shape.1 e in
     let more : 2 ≤ payload_of w = s.0 in
@@ -115,11 +115,11 @@ entry_tells area cell closed h =
     let n : ℕ = payload_of w - 2 in
     let r = parts_of area n (cell + 3) (λ k i. (closed.arguments cell k h e (omega arith), value_not_private (slice_index area (cell + 3 + k)) (value_at area cell (2 + k) (cell + 3 + k) h.0 (omega arith) (omega arith)))) in
     let long : length r.0 ≡ n = r.1 in
-    (Spawned (payload_of first) (payload_of second) r.0, (omega arith, omega arith, omega arith, count, r.2)))
+    (LoggedSpawn (payload_of first) (payload_of second) r.0, (omega arith, omega arith, omega arith, count, r.2)))
     (λ o. let e : tag_of w ≡ 11 = omega arith in
     let s = h.0.shape.2 e in
     let two_follow : payload_of w ≡ 2 = s.0 in
     let one : tag_of first ≡ 3 = s.1 in
     let two : tag_of second ≡ 1 = s.2.0 in
     let count : payload_of second < 2 ^ 59 = s.2.1 in
-    (Printed (payload_of first) (payload_of second), (omega arith, omega arith, omega arith, count))))
+    (LoggedPrint (payload_of first) (payload_of second), (omega arith, omega arith, omega arith, count))))

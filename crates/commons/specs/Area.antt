@@ -1,6 +1,6 @@
 -- The message area as a list of words, 0 where none was written: its cells, and what closes it. The project's own.
 use Rattle.std.specs.Prelude.{◌≡◌, ◌≢◌, ◌⊎◌, ℕ, ◌+◌, ◌<◌, ◌≤◌, List, [], slice_index}
-use Rattle.hy_terms.specs.declared.term.Labelled.{Labelled}
+use Rattle.hy_terms.specs.Labelled.{Labelled}
 use Rattle.hy_words.specs.Words.{tag_of, payload_of, area_word_of, IsHeader, IsValue, IsPidWord, IsCountWord, following}
 use Rattle.hy_words.specs.Stands.{Stands}
 

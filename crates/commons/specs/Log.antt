@@ -1,7 +1,7 @@
 -- The log as the list of its written words, each the area word of an entry: what the entries tell. The project's own.
 use Rattle.std.specs.Prelude.{◌≡◌, ℕ, suc, ◌+◌, ◌<◌, ◌≤◌, ◌^◌, List, [], ◌∷◌, length, take, slice_index, if◌then◌else◌, ◌==◌, ◌&&◌, Bool}
 use Rattle.hy_terms.specs.declared.term.Colour.TheVariants.{Shared}
-use Rattle.hy_terms.specs.declared.term.Labelled.{Labelled}
+use Rattle.hy_terms.specs.Labelled.{Labelled}
 use Rattle.hy_words.specs.declared.kind.Entry.TheVariants.{Send, Spawn, Print}
 use Rattle.hy_words.specs.Lists.{total}
 use Rattle.hy_words.specs.Words.{word_of, tag_of, payload_of, pid_word_of, entry_header_of}
@@ -38,17 +38,17 @@ prints_at area log places = total (λ place. if tag_of (header_at area (slice_in
 
 -- the event of an actor that an entry tells: a message and arguments are labelled terms, a text is known by its number
 pub data LogEvent : Type 0 where
-  Sent : (actor target : ℕ) → Labelled → LogEvent
-  Spawned : (actor function : ℕ) → List Labelled → LogEvent
-  Printed : (actor text : ℕ) → LogEvent
+  LoggedSend : (actor target : ℕ) → Labelled → LogEvent
+  LoggedSpawn : (actor function : ℕ) → List Labelled → LogEvent
+  LoggedPrint : (actor text : ℕ) → LogEvent
 
 -- the entry at this place of the area tells the event
 abbrev pub Tells : List ℕ → ℕ → LogEvent → Type 0
-Tells area cell (Sent actor target message) =
+Tells area cell (LoggedSend actor target message) =
     (slice_index area cell ≡ entry_header_of Send 3) × (slice_index area (cell + 1) ≡ pid_word_of actor) × (slice_index area (cell + 2) ≡ pid_word_of target) × Stands [] area message (slice_index area (cell + 3))
-Tells area cell (Spawned actor function arguments) =
+Tells area cell (LoggedSpawn actor function arguments) =
     (slice_index area cell ≡ entry_header_of Spawn (2 + length arguments)) × (slice_index area (cell + 1) ≡ pid_word_of actor) × (slice_index area (cell + 2) ≡ word_of 1 function) × (function < 2 ^ 59) × PartsStand [] area Shared (cell + 3) arguments
-Tells area cell (Printed actor text) =
+Tells area cell (LoggedPrint actor text) =
     (slice_index area cell ≡ entry_header_of Print 2) × (slice_index area (cell + 1) ≡ pid_word_of actor) × (slice_index area (cell + 2) ≡ word_of 1 text) × (text < 2 ^ 59)
 
 -- the log fits, each of its words names a whole entry that tells an event, and the i-th print of an actor, from 0, names its text i

@@ -1,6 +1,6 @@
 -- What a pass knows: its cells, the areas that fit it, and what it may put and read. The project's own.
 use Rattle.std.specs.Prelude.{◌≡◌, ◌⊎◌, ℕ, ◌+◌, ◌<◌, ◌≤◌, List, length, slice_index, Some, None}
-use Rattle.hy_terms.specs.declared.term.Labelled.{Labelled}
+use Rattle.hy_terms.specs.Labelled.{Labelled}
 use Rattle.hy_words.specs.Lists.{Grown, Has}
 use Rattle.hy_words.specs.Words.{tag_of, area_word_of, IsHeader, IsScalar, following}
 use Rattle.hy_words.specs.Stands.{Stands}

@@ -1,0 +1,86 @@
+-- What puts in a row make: entries that may be appended.
+use Rattle.std.proofs.Common.{◌≡◌, ◌≢◌, ◌⊎◌, ℕ, zero, suc, ◌+◌, ◌*◌, ◌/◌, ◌%◌, ◌<◌, ◌≤◌, List, length, sym, refl, ap, ◌∙◌, inl, inr, ⊎_elim, subst, arith, lit≤, lit<}
+use Rattle.std.specs.Prelude.{slice_index}
+use Rattle.hy_words.specs.Lists.{Grown}
+use Rattle.hy_words.specs.Words.{tag_of, payload_of, size_of, site_of, area_word_of, IsHeader, IsScalar, IsValue, IsPidWord, IsCountWord, following}
+use Rattle.commons.specs.declared.view.View.{View}
+use Rattle.commons.specs.Area.{IsWhole, IsEntryCell, HasShape}
+use Rattle.commons.specs.Log.{header_at, actor_of, text_of, prints_at}
+use Rattle.commons.specs.Views.{Fits}
+use Rattle.commons.specs.Changes.{Puts, MayAppend}
+use Rattle.commons.proofs.Cells.{header_not_zero, value_not_zero, following_entry}
+use Rattle.commons.proofs.Grows.{area_word_tag, area_word_place}
+
+pub below_two : (P : ℕ → Type 0) → P 0 → P 1 → (k : ℕ) → k < 2 → P k
+below_two P a b zero h = a
+below_two P a b (suc zero) h = b
+below_two P a b (suc (suc k)) h = absurd (omega arith)
+
+pub below_three : (P : ℕ → Type 0) → P 0 → P 1 → P 2 → (k : ℕ) → k < 3 → P k
+below_three P a b c zero h = a
+below_three P a b c (suc zero) h = b
+below_three P a b c (suc (suc zero)) h = c
+below_three P a b c (suc (suc (suc k))) h = absurd (omega arith)
+
+-- a word that was put stays
+stayed : (a b : View) (place word x : ℕ) → Puts a x b → word ≢ 0 → slice_index a.seen place ≡ word → slice_index b.seen place ≡ word
+stayed a b place word x p n e = p.1 place (λ z. n (sym e ∙ z)) ∙ e
+
+-- the whole entry with a header, a pid and a count behind it
+pub short_entry : (capacity : ℕ) (a b c d : View) (h x y entry : ℕ) → Puts a h b → Puts b x c → Puts c y d → IsHeader h → 9 < tag_of h → payload_of h ≡ 2 → IsScalar x → IsPidWord x → payload_of x ≡ a.pid → IsScalar y → IsCountWord y → entry ≡ area_word_of a.block_start
+    → (tag_of h ≡ 11 → (area : List ℕ) → Fits capacity d area → payload_of y ≡ prints_at area d.known d.own) → MayAppend capacity d entry
+short_entry capacity a b c d h x y entry p q r header kind two sx px me sy cy at text =
+    let n : ℕ = a.block_start in
+    let b1 : b.block_start ≡ n + 1 = ap (λ (v : View). v.block_start) p.0 in
+    let c1 : c.block_start ≡ n + 1 + 1 = ap (λ (v : View). v.block_start) q.0 ∙ ap (λ (k : ℕ). k + 1) b1 in
+    let nh = header_not_zero h header in
+    let nx = value_not_zero x (inl sx) in
+    let w0 : slice_index d.seen n ≡ h = stayed c d n h y r nh (stayed b c n h x q nh p.2) in
+    let w1 : slice_index d.seen (n + 1) ≡ x = stayed c d (n + 1) x y r nx (subst (λ (k : ℕ). slice_index c.seen k ≡ x) b1 q.2) in
+    let w2 : slice_index d.seen (n + 2) ≡ y = subst (λ (k : ℕ). slice_index d.seen k ≡ y) (let z : c.block_start ≡ n + 2 = omega arith in z) r.2 in
+    let place : payload_of entry ≡ n = ap payload_of at ∙ area_word_place n in
+    let f : following (slice_index d.seen n) ≡ 2 = ap following w0 ∙ (following_entry h (omega arith) ∙ two) in
+    let pid : d.pid ≡ a.pid = ap (λ (v : View). v.pid) r.0 ∙ (ap (λ (v : View). v.pid) q.0 ∙ ap (λ (v : View). v.pid) p.0) in
+    let shape : HasShape h x y = ((λ e. absurd (omega arith)), (λ e. (omega arith, px, cy)), (λ e. (two, px, cy))) in
+    let whole : IsWhole d.seen n = record {
+      header = subst IsHeader (sym w0) header;
+      values = λ k i. below_two (λ (j : ℕ). IsValue (slice_index d.seen (n + 1 + j))) (subst (λ (j : ℕ). IsValue (slice_index d.seen j)) (let z : n + 1 ≡ n + 1 + 0 = omega arith in z) (subst IsValue (sym w1) (inl sx))) (subst (λ (j : ℕ). IsValue (slice_index d.seen j)) (let z : n + 2 ≡ n + 1 + 1 = omega arith in z) (subst IsValue (sym w2) (inl sy))) k (subst (λ (m : ℕ). k < m) f i);
+      shape = subst (λ (t : ℕ × (ℕ × ℕ)). HasShape t.0 t.1.0 t.1.1) (λ i. (sym w0 i, (sym w1 i, sym w2 i))) shape;
+    } in
+    let cell : IsEntryCell d.seen n = (whole, subst (λ (w : ℕ). 8 < tag_of w) (sym w0) (omega arith)) in record {
+      names_cell = ap tag_of at ∙ area_word_tag n;
+      whole = subst (IsEntryCell d.seen) (sym place) cell;
+      actor = ap (λ (k : ℕ). payload_of (slice_index d.seen (k + 1))) place ∙ (ap payload_of w1 ∙ (me ∙ sym pid));
+      text = λ print area fit. ap (λ (k : ℕ). payload_of (slice_index d.seen (k + 2))) place ∙ (ap payload_of w2 ∙ text (sym (ap (λ (k : ℕ). tag_of (slice_index d.seen k)) place ∙ ap tag_of w0) ∙ print) area fit);
+    }
+
+-- the whole send entry
+pub send_entry : (capacity : ℕ) (a b c d e : View) (h x y z entry : ℕ) → Puts a h b → Puts b x c → Puts c y d → Puts d z e → IsHeader h → tag_of h ≡ 9 → payload_of h ≡ 3 → IsScalar x → IsPidWord x → payload_of x ≡ a.pid → IsScalar y → IsPidWord y → IsScalar z → entry ≡ area_word_of a.block_start → MayAppend capacity e entry
+send_entry capacity a b c d e h x y z entry p q r s header kind three sx px me sy py sz at =
+    let n : ℕ = a.block_start in
+    let b1 : b.block_start ≡ n + 1 = ap (λ (v : View). v.block_start) p.0 in
+    let c1 : c.block_start ≡ n + 1 + 1 = ap (λ (v : View). v.block_start) q.0 ∙ ap (λ (k : ℕ). k + 1) b1 in
+    let d1 : d.block_start ≡ n + 1 + 1 + 1 = ap (λ (v : View). v.block_start) r.0 ∙ ap (λ (k : ℕ). k + 1) c1 in
+    let nh = header_not_zero h header in
+    let nx = value_not_zero x (inl sx) in
+    let ny = value_not_zero y (inl sy) in
+    let w0 : slice_index e.seen n ≡ h = stayed d e n h z s nh (stayed c d n h y r nh (stayed b c n h x q nh p.2)) in
+    let w1 : slice_index e.seen (n + 1) ≡ x = stayed d e (n + 1) x z s nx (stayed c d (n + 1) x y r nx (subst (λ (k : ℕ). slice_index c.seen k ≡ x) b1 q.2)) in
+    let w2 : slice_index e.seen (n + 2) ≡ y = stayed d e (n + 2) y z s ny (subst (λ (k : ℕ). slice_index d.seen k ≡ y) (let u : c.block_start ≡ n + 2 = omega arith in u) r.2) in
+    let w3 : slice_index e.seen (n + 3) ≡ z = subst (λ (k : ℕ). slice_index e.seen k ≡ z) (let u : d.block_start ≡ n + 3 = omega arith in u) s.2 in
+    let place : payload_of entry ≡ n = ap payload_of at ∙ area_word_place n in
+    let f : following (slice_index e.seen n) ≡ 3 = ap following w0 ∙ (following_entry h (omega arith) ∙ three) in
+    let pid : e.pid ≡ a.pid = ap (λ (v : View). v.pid) s.0 ∙ (ap (λ (v : View). v.pid) r.0 ∙ (ap (λ (v : View). v.pid) q.0 ∙ ap (λ (v : View). v.pid) p.0)) in
+    let shape : HasShape h x y = ((λ k. (three, px, py)), (λ k. absurd (omega arith)), (λ k. absurd (omega arith))) in
+    let value : (j k w : ℕ) → k ≡ j → slice_index e.seen k ≡ w → IsScalar w → IsValue (slice_index e.seen j) = λ j k w u at v. subst (λ (i : ℕ). IsValue (slice_index e.seen i)) u (subst IsValue (sym at) (inl v)) in
+    let whole : IsWhole e.seen n = record {
+      header = subst IsHeader (sym w0) header;
+      values = λ k i. below_three (λ (j : ℕ). IsValue (slice_index e.seen (n + 1 + j))) (value (n + 1 + 0) (n + 1) x (omega arith) w1 sx) (value (n + 1 + 1) (n + 2) y (omega arith) w2 sy) (value (n + 1 + 2) (n + 3) z (omega arith) w3 sz) k (subst (λ (m : ℕ). k < m) f i);
+      shape = subst (λ (t : ℕ × (ℕ × ℕ)). HasShape t.0 t.1.0 t.1.1) (λ i. (sym w0 i, (sym w1 i, sym w2 i))) shape;
+    } in
+    let cell : IsEntryCell e.seen n = (whole, subst (λ (w : ℕ). 8 < tag_of w) (sym w0) (omega arith)) in record {
+      names_cell = ap tag_of at ∙ area_word_tag n;
+      whole = subst (IsEntryCell e.seen) (sym place) cell;
+      actor = ap (λ (k : ℕ). payload_of (slice_index e.seen (k + 1))) place ∙ (ap payload_of w1 ∙ (me ∙ sym pid));
+      text = λ print area fit. absurd (let t : tag_of (header_at e.seen entry) ≡ 9 = ap (λ (k : ℕ). tag_of (slice_index e.seen k)) place ∙ (ap tag_of w0 ∙ kind) in let u : tag_of (header_at e.seen entry) ≡ 11 = print in omega arith);
+    }
