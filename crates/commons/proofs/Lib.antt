@@ -14,4 +14,5 @@ pub mod PlainSteps
 pub mod PlainBirths
 pub mod PlainOpens
 pub mod PlainCloses
-pub mod Entries
+pub mod Later
+pub mod Rowed

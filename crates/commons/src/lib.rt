@@ -2,11 +2,15 @@
 #![tactic(auto)]
 
 mod contract;
+mod entries;
 mod plain;
 mod plain_calls;
 mod plain_ends;
+#[cfg(test)]
+mod tests;
 mod view;
 
 pub use contract::{AreaFull, Commons, Link, LogFull};
+pub use entries::{put_print, put_send};
 pub use plain::{Final, PlainCommons, PlainPass};
 pub use view::{Refusal, View};

@@ -1,14 +1,15 @@
 -- What puts in a row make: entries that may be appended.
-use Rattle.std.proofs.Common.{◌≡◌, ◌≢◌, ◌⊎◌, ℕ, zero, suc, ◌+◌, ◌*◌, ◌/◌, ◌%◌, ◌<◌, ◌≤◌, List, length, sym, refl, ap, ◌∙◌, inl, inr, ⊎_elim, subst, arith, lit≤, lit<}
+use Rattle.std.proofs.Common.{◌≡◌, ◌≢◌, ◌⊎◌, ℕ, zero, suc, ◌+◌, ◌*◌, ◌/◌, ◌%◌, ◌^◌, ◌<◌, ◌≤◌, List, length, sym, refl, ap, ◌∙◌, inl, inr, ⊎_elim, subst, arith, lit≤, lit<}
 use Rattle.std.specs.Prelude.{slice_index}
 use Rattle.hy_words.specs.Lists.{Grown}
-use Rattle.hy_words.specs.Words.{tag_of, payload_of, size_of, site_of, area_word_of, IsHeader, IsScalar, IsValue, IsPidWord, IsCountWord, following}
+use Rattle.hy_words.specs.Words.{word_of, tag_of, payload_of, size_of, site_of, area_word_of, IsHeader, IsScalar, IsValue, IsPidWord, IsCountWord, following}
 use Rattle.commons.specs.declared.view.View.{View}
 use Rattle.commons.specs.Area.{IsWhole, IsEntryCell, HasShape}
 use Rattle.commons.specs.Log.{header_at, actor_of, text_of, prints_at}
-use Rattle.commons.specs.Views.{Fits}
+use Rattle.commons.specs.Views.{Fits, MayPut}
 use Rattle.commons.specs.Changes.{Puts, MayAppend}
 use Rattle.commons.proofs.Cells.{header_not_zero, value_not_zero, following_entry}
+use Rattle.commons.proofs.Later.{KnowsMore, more_on, put_more, may_put_later, fits_later}
 use Rattle.commons.proofs.Grows.{area_word_tag, area_word_place}
 
 pub below_two : (P : ℕ → Type 0) → P 0 → P 1 → (k : ℕ) → k < 2 → P k
@@ -55,7 +56,7 @@ short_entry capacity a b c d h x y entry p q r header kind two sx px me sy cy at
     }
 
 -- the whole send entry
-pub send_entry : (capacity : ℕ) (a b c d e : View) (h x y z entry : ℕ) → Puts a h b → Puts b x c → Puts c y d → Puts d z e → IsHeader h → tag_of h ≡ 9 → payload_of h ≡ 3 → IsScalar x → IsPidWord x → payload_of x ≡ a.pid → IsScalar y → IsPidWord y → IsScalar z → entry ≡ area_word_of a.block_start → MayAppend capacity e entry
+pub send_entry : (capacity : ℕ) (a b c d e : View) (h x y z entry : ℕ) → Puts a h b → Puts b x c → Puts c y d → Puts d z e → IsHeader h → tag_of h ≡ 9 → payload_of h ≡ 3 → IsScalar x → IsPidWord x → payload_of x ≡ a.pid → IsScalar y → IsPidWord y → IsValue z → entry ≡ area_word_of a.block_start → MayAppend capacity e entry
 send_entry capacity a b c d e h x y z entry p q r s header kind three sx px me sy py sz at =
     let n : ℕ = a.block_start in
     let b1 : b.block_start ≡ n + 1 = ap (λ (v : View). v.block_start) p.0 in
@@ -72,10 +73,10 @@ send_entry capacity a b c d e h x y z entry p q r s header kind three sx px me s
     let f : following (slice_index e.seen n) ≡ 3 = ap following w0 ∙ (following_entry h (omega arith) ∙ three) in
     let pid : e.pid ≡ a.pid = ap (λ (v : View). v.pid) s.0 ∙ (ap (λ (v : View). v.pid) r.0 ∙ (ap (λ (v : View). v.pid) q.0 ∙ ap (λ (v : View). v.pid) p.0)) in
     let shape : HasShape h x y = ((λ k. (three, px, py)), (λ k. absurd (omega arith)), (λ k. absurd (omega arith))) in
-    let value : (j k w : ℕ) → k ≡ j → slice_index e.seen k ≡ w → IsScalar w → IsValue (slice_index e.seen j) = λ j k w u at v. subst (λ (i : ℕ). IsValue (slice_index e.seen i)) u (subst IsValue (sym at) (inl v)) in
+    let value : (j k w : ℕ) → k ≡ j → slice_index e.seen k ≡ w → IsValue w → IsValue (slice_index e.seen j) = λ j k w u at v. subst (λ (i : ℕ). IsValue (slice_index e.seen i)) u (subst IsValue (sym at) v) in
     let whole : IsWhole e.seen n = record {
       header = subst IsHeader (sym w0) header;
-      values = λ k i. below_three (λ (j : ℕ). IsValue (slice_index e.seen (n + 1 + j))) (value (n + 1 + 0) (n + 1) x (omega arith) w1 sx) (value (n + 1 + 1) (n + 2) y (omega arith) w2 sy) (value (n + 1 + 2) (n + 3) z (omega arith) w3 sz) k (subst (λ (m : ℕ). k < m) f i);
+      values = λ k i. below_three (λ (j : ℕ). IsValue (slice_index e.seen (n + 1 + j))) (value (n + 1 + 0) (n + 1) x (omega arith) w1 (inl sx)) (value (n + 1 + 1) (n + 2) y (omega arith) w2 (inl sy)) (value (n + 1 + 2) (n + 3) z (omega arith) w3 sz) k (subst (λ (m : ℕ). k < m) f i);
       shape = subst (λ (t : ℕ × (ℕ × ℕ)). HasShape t.0 t.1.0 t.1.1) (λ i. (sym w0 i, (sym w1 i, sym w2 i))) shape;
     } in
     let cell : IsEntryCell e.seen n = (whole, subst (λ (w : ℕ). 8 < tag_of w) (sym w0) (omega arith)) in record {
@@ -84,3 +85,21 @@ send_entry capacity a b c d e h x y z entry p q r s header kind three sx px me s
       actor = ap (λ (k : ℕ). payload_of (slice_index e.seen (k + 1))) place ∙ (ap payload_of w1 ∙ (me ∙ sym pid));
       text = λ print area fit. absurd (let t : tag_of (header_at e.seen entry) ≡ 9 = ap (λ (k : ℕ). tag_of (slice_index e.seen k)) place ∙ (ap tag_of w0 ∙ kind) in let u : tag_of (header_at e.seen entry) ≡ 11 = print in omega arith);
     }
+
+-- after words were put a pass knows no less
+pub three_more : (a b c d : View) (x y z : ℕ) → Puts a x b → Puts b y c → Puts c z d → KnowsMore a d
+three_more a b c d x y z p q r = more_on a b d (put_more a b x p) (more_on b c d (put_more b c y q) (put_more c d z r))
+
+pub may_put_after : (capacity : ℕ) (a b c d : View) (x y z word : ℕ) → Puts a x b → Puts b y c → Puts c z d → MayPut capacity a word → MayPut capacity d word
+may_put_after capacity a b c d x y z word p q r may = may_put_later capacity a d word (three_more a b c d x y z p q r) may
+
+-- a print entry, whose number was right before its words were put
+pub print_entry : (capacity : ℕ) (a b c d : View) (h x y entry text : ℕ) → Puts a h b → Puts b x c → Puts c y d → IsHeader h → tag_of h ≡ 11 → payload_of h ≡ 2 → IsScalar x → IsPidWord x → payload_of x ≡ a.pid → IsScalar y → y ≡ word_of 1 text → text < 2 ^ 59 → entry ≡ area_word_of a.block_start
+    → ((area : List ℕ) → Fits capacity a area → text ≡ prints_at area a.known a.own) → MayAppend capacity d entry
+print_entry capacity a b c d h x y entry text p q r header kind two sx px me sy is low at right =
+    let load : payload_of y ≡ text = omega arith in
+    let count : IsCountWord y = (omega arith, omega arith) in
+    let known : d.known ≡ a.known = ap (λ (v : View). v.known) r.0 ∙ (ap (λ (v : View). v.known) q.0 ∙ ap (λ (v : View). v.known) p.0) in
+    let own : d.own ≡ a.own = ap (λ (v : View). v.own) r.0 ∙ (ap (λ (v : View). v.own) q.0 ∙ ap (λ (v : View). v.own) p.0) in
+    short_entry capacity a b c d h x y entry p q r header (omega arith) two sx px me sy count at
+    (λ print area fit. load ∙ (right area (fits_later capacity a d area (three_more a b c d h x y p q r) fit) ∙ ap (λ (t : List ℕ × List ℕ). prints_at area t.0 t.1) (λ i. (sym known i, sym own i))))
