@@ -28,7 +28,7 @@ pub fn put_send<C: Commons>(
     ensures others { KeepsOthers C.is_pass C.apart C.view c.old pass.old c.new pass.new }
     ensures word { result ≡ area_word_of (C.view c.old pass.old).block_start }
     ensures puts { (C.view c.new pass.new ≡ record (C.view c.old pass.old) { block_start = (C.view c.old pass.old).block_start + 4; puts = (C.view c.old pass.old).puts + 4; seen = (C.view c.new pass.new).seen }) × Grown (C.view c.old pass.old).seen (C.view c.new pass.new).seen }
-    ensures entry { MayAppend (C.area_size c.old) (C.view c.new pass.new) result }
+    ensures entry { MayAppend (C.area_size c.new) (C.view c.new pass.new) result }
 {
     let place = c.put(pass, entry_header(Entry::Send, 3));
     c.put(pass, pid_word(actor));
@@ -50,7 +50,7 @@ pub fn put_print<C: Commons>(c: &mut C, pass: &mut C::Pass, actor: u64, text: u6
     ensures others { KeepsOthers C.is_pass C.apart C.view c.old pass.old c.new pass.new }
     ensures word { result ≡ area_word_of (C.view c.old pass.old).block_start }
     ensures puts { (C.view c.new pass.new ≡ record (C.view c.old pass.old) { block_start = (C.view c.old pass.old).block_start + 3; puts = (C.view c.old pass.old).puts + 3; seen = (C.view c.new pass.new).seen }) × Grown (C.view c.old pass.old).seen (C.view c.new pass.new).seen }
-    ensures entry { MayAppend (C.area_size c.old) (C.view c.new pass.new) result }
+    ensures entry { MayAppend (C.area_size c.new) (C.view c.new pass.new) result }
 {
     let place = c.put(pass, entry_header(Entry::Print, 2));
     c.put(pass, pid_word(actor));
