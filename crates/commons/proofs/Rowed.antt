@@ -27,18 +27,37 @@ below_three P a b c (suc (suc (suc k))) h = absurd (omega arith)
 stayed : (a b : View) (place word x : ℕ) → Puts a x b → word ≢ 0 → slice_index a.seen place ≡ word → slice_index b.seen place ≡ word
 stayed a b place word x p n e = p.1 place (λ z. n (sym e ∙ z)) ∙ e
 
+-- words that were put in a row stand in a row
+pub short_words : (a b c d : View) (h x y : ℕ) → Puts a h b → Puts b x c → Puts c y d → h ≢ 0 → x ≢ 0 → (slice_index d.seen a.block_start ≡ h) × (slice_index d.seen (a.block_start + 1) ≡ x) × (slice_index d.seen (a.block_start + 2) ≡ y)
+short_words a b c d h x y p q r nh nx =
+    let n : ℕ = a.block_start in
+    let b1 : b.block_start ≡ n + 1 = ap (λ (v : View). v.block_start) p.0 in
+    let c1 : c.block_start ≡ n + 1 + 1 = ap (λ (v : View). v.block_start) q.0 ∙ ap (λ (k : ℕ). k + 1) b1 in
+    let c2 : c.block_start ≡ n + 2 = omega arith in (
+      stayed c d n h y r nh (stayed b c n h x q nh p.2),
+      stayed c d (n + 1) x y r nx (subst (λ (k : ℕ). slice_index c.seen k ≡ x) b1 q.2),
+      subst (λ (k : ℕ). slice_index d.seen k ≡ y) c2 r.2,
+    )
+
+pub sent_words : (a b c d e : View) (h x y z : ℕ) → Puts a h b → Puts b x c → Puts c y d → Puts d z e → h ≢ 0 → x ≢ 0 → y ≢ 0
+    → (slice_index e.seen a.block_start ≡ h) × (slice_index e.seen (a.block_start + 1) ≡ x) × (slice_index e.seen (a.block_start + 2) ≡ y) × (slice_index e.seen (a.block_start + 3) ≡ z)
+sent_words a b c d e h x y z p q r s nh nx ny =
+    let n : ℕ = a.block_start in
+    let ws = short_words a b c d h x y p q r nh nx in
+    let b1 : b.block_start ≡ n + 1 = ap (λ (v : View). v.block_start) p.0 in
+    let c1 : c.block_start ≡ n + 1 + 1 = ap (λ (v : View). v.block_start) q.0 ∙ ap (λ (k : ℕ). k + 1) b1 in
+    let d1 : d.block_start ≡ n + 1 + 1 + 1 = ap (λ (v : View). v.block_start) r.0 ∙ ap (λ (k : ℕ). k + 1) c1 in
+    let d2 : d.block_start ≡ n + 3 = omega arith in (stayed d e n h z s nh ws.0, stayed d e (n + 1) x z s nx ws.1, stayed d e (n + 2) y z s ny ws.2, subst (λ (k : ℕ). slice_index e.seen k ≡ z) d2 s.2)
+
 -- the whole entry with a header, a pid and a count behind it
 pub short_entry : (capacity : ℕ) (a b c d : View) (h x y entry : ℕ) → Puts a h b → Puts b x c → Puts c y d → IsHeader h → 9 < tag_of h → payload_of h ≡ 2 → IsScalar x → IsPidWord x → payload_of x ≡ a.pid → IsScalar y → IsCountWord y → entry ≡ area_word_of a.block_start
     → (tag_of h ≡ 11 → (area : List ℕ) → Fits capacity d area → payload_of y ≡ prints_at area d.known d.own) → MayAppend capacity d entry
 short_entry capacity a b c d h x y entry p q r header kind two sx px me sy cy at text =
     let n : ℕ = a.block_start in
-    let b1 : b.block_start ≡ n + 1 = ap (λ (v : View). v.block_start) p.0 in
-    let c1 : c.block_start ≡ n + 1 + 1 = ap (λ (v : View). v.block_start) q.0 ∙ ap (λ (k : ℕ). k + 1) b1 in
-    let nh = header_not_zero h header in
-    let nx = value_not_zero x (inl sx) in
-    let w0 : slice_index d.seen n ≡ h = stayed c d n h y r nh (stayed b c n h x q nh p.2) in
-    let w1 : slice_index d.seen (n + 1) ≡ x = stayed c d (n + 1) x y r nx (subst (λ (k : ℕ). slice_index c.seen k ≡ x) b1 q.2) in
-    let w2 : slice_index d.seen (n + 2) ≡ y = subst (λ (k : ℕ). slice_index d.seen k ≡ y) (let z : c.block_start ≡ n + 2 = omega arith in z) r.2 in
+    let ws = short_words a b c d h x y p q r (header_not_zero h header) (value_not_zero x (inl sx)) in
+    let w0 = ws.0 in
+    let w1 = ws.1 in
+    let w2 = ws.2 in
     let place : payload_of entry ≡ n = ap payload_of at ∙ area_word_place n in
     let f : following (slice_index d.seen n) ≡ 2 = ap following w0 ∙ (following_entry h (omega arith) ∙ two) in
     let pid : d.pid ≡ a.pid = ap (λ (v : View). v.pid) r.0 ∙ (ap (λ (v : View). v.pid) q.0 ∙ ap (λ (v : View). v.pid) p.0) in
@@ -59,16 +78,11 @@ short_entry capacity a b c d h x y entry p q r header kind two sx px me sy cy at
 pub send_entry : (capacity : ℕ) (a b c d e : View) (h x y z entry : ℕ) → Puts a h b → Puts b x c → Puts c y d → Puts d z e → IsHeader h → tag_of h ≡ 9 → payload_of h ≡ 3 → IsScalar x → IsPidWord x → payload_of x ≡ a.pid → IsScalar y → IsPidWord y → IsValue z → entry ≡ area_word_of a.block_start → MayAppend capacity e entry
 send_entry capacity a b c d e h x y z entry p q r s header kind three sx px me sy py sz at =
     let n : ℕ = a.block_start in
-    let b1 : b.block_start ≡ n + 1 = ap (λ (v : View). v.block_start) p.0 in
-    let c1 : c.block_start ≡ n + 1 + 1 = ap (λ (v : View). v.block_start) q.0 ∙ ap (λ (k : ℕ). k + 1) b1 in
-    let d1 : d.block_start ≡ n + 1 + 1 + 1 = ap (λ (v : View). v.block_start) r.0 ∙ ap (λ (k : ℕ). k + 1) c1 in
-    let nh = header_not_zero h header in
-    let nx = value_not_zero x (inl sx) in
-    let ny = value_not_zero y (inl sy) in
-    let w0 : slice_index e.seen n ≡ h = stayed d e n h z s nh (stayed c d n h y r nh (stayed b c n h x q nh p.2)) in
-    let w1 : slice_index e.seen (n + 1) ≡ x = stayed d e (n + 1) x z s nx (stayed c d (n + 1) x y r nx (subst (λ (k : ℕ). slice_index c.seen k ≡ x) b1 q.2)) in
-    let w2 : slice_index e.seen (n + 2) ≡ y = stayed d e (n + 2) y z s ny (subst (λ (k : ℕ). slice_index d.seen k ≡ y) (let u : c.block_start ≡ n + 2 = omega arith in u) r.2) in
-    let w3 : slice_index e.seen (n + 3) ≡ z = subst (λ (k : ℕ). slice_index e.seen k ≡ z) (let u : d.block_start ≡ n + 3 = omega arith in u) s.2 in
+    let ws = sent_words a b c d e h x y z p q r s (header_not_zero h header) (value_not_zero x (inl sx)) (value_not_zero y (inl sy)) in
+    let w0 = ws.0 in
+    let w1 = ws.1 in
+    let w2 = ws.2 in
+    let w3 = ws.3 in
     let place : payload_of entry ≡ n = ap payload_of at ∙ area_word_place n in
     let f : following (slice_index e.seen n) ≡ 3 = ap following w0 ∙ (following_entry h (omega arith) ∙ three) in
     let pid : e.pid ≡ a.pid = ap (λ (v : View). v.pid) s.0 ∙ (ap (λ (v : View). v.pid) r.0 ∙ (ap (λ (v : View). v.pid) q.0 ∙ ap (λ (v : View). v.pid) p.0)) in

@@ -51,6 +51,14 @@ Tells area cell (LoggedSpawn actor function arguments) =
 Tells area cell (LoggedPrint actor text) =
     (slice_index area cell ≡ entry_header_of Print 2) × (slice_index area (cell + 1) ≡ pid_word_of actor) × (slice_index area (cell + 2) ≡ word_of 1 text) × (text < 2 ^ 59)
 
+-- the words of a send entry and of a print entry
+abbrev pub HasSendWords : List ℕ → (place actor target message : ℕ) → Type 0
+HasSendWords area place actor target message =
+    (slice_index area place ≡ entry_header_of Send 3) × (slice_index area (place + 1) ≡ pid_word_of actor) × (slice_index area (place + 2) ≡ pid_word_of target) × (slice_index area (place + 3) ≡ message)
+
+abbrev pub HasPrintWords : List ℕ → (place actor text : ℕ) → Type 0
+HasPrintWords area place actor text = (slice_index area place ≡ entry_header_of Print 2) × (slice_index area (place + 1) ≡ pid_word_of actor) × (slice_index area (place + 2) ≡ word_of 1 text)
+
 -- the log fits, each of its words names a whole entry that tells an event, and the i-th print of an actor, from 0, names its text i
 pub record IsLog (log_size : ℕ) (log area : List ℕ) : Type 0 where
   pub short : length log ≤ log_size

@@ -2,7 +2,7 @@
 ghost use Rattle.std.specs.Prelude.{◌≡◌, ◌≢◌, ℕ, ◌+◌, ◌^◌, ◌<◌, ◌≤◌, List};
 ghost use Rattle.hy_words.specs.Lists.{Grown};
 ghost use Rattle.hy_words.specs.Words.{IsValue, area_word_of};
-ghost use Rattle.commons.specs.Log.{prints_at};
+ghost use Rattle.commons.specs.Log.{prints_at, HasSendWords, HasPrintWords};
 ghost use Rattle.commons.specs.Views.{Fits, MayPut};
 ghost use Rattle.commons.specs.Changes.{KeepsOthers, MayAppend};
 
@@ -28,6 +28,7 @@ pub fn put_send<C: Commons>(
     ensures others { KeepsOthers C.is_pass C.apart C.view c.old pass.old c.new pass.new }
     ensures word { result ≡ area_word_of (C.view c.old pass.old).block_start }
     ensures puts { (C.view c.new pass.new ≡ record (C.view c.old pass.old) { block_start = (C.view c.old pass.old).block_start + 4; puts = (C.view c.old pass.old).puts + 4; seen = (C.view c.new pass.new).seen }) × Grown (C.view c.old pass.old).seen (C.view c.new pass.new).seen }
+    ensures words { HasSendWords (C.view c.new pass.new).seen (C.view c.old pass.old).block_start actor target message }
     ensures entry { MayAppend (C.area_size c.new) (C.view c.new pass.new) result }
 {
     let place = c.put(pass, entry_header(Entry::Send, 3));
@@ -50,6 +51,7 @@ pub fn put_print<C: Commons>(c: &mut C, pass: &mut C::Pass, actor: u64, text: u6
     ensures others { KeepsOthers C.is_pass C.apart C.view c.old pass.old c.new pass.new }
     ensures word { result ≡ area_word_of (C.view c.old pass.old).block_start }
     ensures puts { (C.view c.new pass.new ≡ record (C.view c.old pass.old) { block_start = (C.view c.old pass.old).block_start + 3; puts = (C.view c.old pass.old).puts + 3; seen = (C.view c.new pass.new).seen }) × Grown (C.view c.old pass.old).seen (C.view c.new pass.new).seen }
+    ensures words { HasPrintWords (C.view c.new pass.new).seen (C.view c.old pass.old).block_start actor text }
     ensures entry { MayAppend (C.area_size c.new) (C.view c.new pass.new) result }
 {
     let place = c.put(pass, entry_header(Entry::Print, 2));
