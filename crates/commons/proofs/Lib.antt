@@ -16,3 +16,4 @@ pub mod PlainOpens
 pub mod PlainCloses
 pub mod Later
 pub mod Rowed
+pub mod Families

@@ -33,6 +33,7 @@ fn post<C: Commons>(
     ensures own { IfOk result (λ place. (C.view c.new pass.new).own ≡ (C.view c.old pass.old).own ++ place ∷ []) }
     ensures puts { IfOk result (λ _. (C.view c.new pass.new).puts ≡ (C.view c.old pass.old).puts + 4) }
     ensures requests { IfOk result (λ _. (C.view c.new pass.new).requests ≡ (C.view c.old pass.old).requests + 256) }
+    ensures same { OnOk result (((C.view c.new pass.new).pid ≡ (C.view c.old pass.old).pid) × ((C.view c.new pass.new).born ≡ (C.view c.old pass.old).born)) }
 {
     c.claim(pass, 256).map_err(Refused::Area)?;
     let entry = put_send(c, pass, actor, target, message);
@@ -41,8 +42,8 @@ fn post<C: Commons>(
 
 #[test]
 fn a_message_is_posted(rt: HostRuntime) -> Result<(), Fail> {
-    let (mut commons, mut pass) = PlainCommons::new(rt.alloc(), 256, 4).map_err(|_| "memory")?;
-    let place = post(&mut commons, &mut pass, 0, 0, nil_word()).map_err(|_| "refused")?;
+    let (mut commons, mut pass) = PlainCommons::new(rt.alloc(), 256, 4)?;
+    let place = post(&mut commons, &mut pass, 0, 0, nil_word())?;
     assert_eq!(rt; place, 0);
     assert_eq!(rt; commons.known(&pass), 1);
     assert_eq!(rt; commons.room(&pass), 252);
@@ -66,6 +67,7 @@ fn fork<C: Commons>(
     ensures others { KeepsOthers C.is_pass C.apart C.view c.old pass.old c.new pass.new }
     ensures names { IfOk result (λ place. (C.view c.new pass.new).unborn ≡ Some (place + 1)) }
     ensures same { OnOk result (((C.view c.new pass.new).refused ≡ (C.view c.old pass.old).refused) × ((C.view c.new pass.new).pid ≡ (C.view c.old pass.old).pid)) }
+    ensures children { OnOk result ((C.view c.new pass.new).born ≡ (C.view c.old pass.old).born) }
     ensures block { OnOk result (((C.view c.new pass.new).block_start ≡ (C.view c.old pass.old).block_start + 3) × ((C.view c.new pass.new).block_end ≡ (C.view c.old pass.old).block_end)) }
 {
     let place = c.put(pass, entry_header(Entry::Spawn, 2));
@@ -76,8 +78,8 @@ fn fork<C: Commons>(
 
 #[test]
 fn the_area_is_claimed_to_its_last_word(rt: HostRuntime) -> Result<(), Fail> {
-    let (mut commons, mut pass) = PlainCommons::new(rt.alloc(), 256, 1).map_err(|_| "memory")?;
-    commons.claim(&mut pass, 256).map_err(|_| "refused")?;
+    let (mut commons, mut pass) = PlainCommons::new(rt.alloc(), 256, 1)?;
+    commons.claim(&mut pass, 256)?;
     assert_eq!(rt; commons.room(&pass), 256);
     match commons.claim(&mut pass, 1) {
         Err(full) => assert_eq!(rt; (full.old, full.asked, full.capacity), (256, 1, 256)),
@@ -89,10 +91,10 @@ fn the_area_is_claimed_to_its_last_word(rt: HostRuntime) -> Result<(), Fail> {
 
 #[test]
 fn a_log_of_one_place_is_filled(rt: HostRuntime) -> Result<(), Fail> {
-    let (mut commons, mut pass) = PlainCommons::new(rt.alloc(), 256, 1).map_err(|_| "memory")?;
-    commons.claim(&mut pass, 256).map_err(|_| "refused")?;
+    let (mut commons, mut pass) = PlainCommons::new(rt.alloc(), 256, 1)?;
+    commons.claim(&mut pass, 256)?;
     let entry = put_send(&mut commons, &mut pass, 0, 0, nil_word());
-    let place = commons.append(&mut pass, entry).map_err(|_| "full")?;
+    let place = commons.append(&mut pass, entry)?;
     assert_eq!(rt; place, 0);
     let second = put_send(&mut commons, &mut pass, 0, 0, nil_word());
     match commons.append(&mut pass, second) {
@@ -106,21 +108,21 @@ fn a_log_of_one_place_is_filled(rt: HostRuntime) -> Result<(), Fail> {
 // The area, the log and the claim word, computed by hand. Pid 0 spawns pid 1, which sends it nil.
 #[test]
 fn two_processes_share_the_commons(rt: HostRuntime) -> Result<(), Fail> {
-    let (mut commons, mut first) = PlainCommons::new(rt.alloc(), 1024, 4).map_err(|_| "memory")?;
-    commons.claim(&mut first, 256).map_err(|_| "refused")?;
-    let place = fork(&mut commons, &mut first, 0, 7).map_err(|_| "full")?;
-    let mut child = commons.birth(&mut first).map_err(|_| "memory")?;
+    let (mut commons, mut first) = PlainCommons::new(rt.alloc(), 1024, 4)?;
+    commons.claim(&mut first, 256)?;
+    let place = fork(&mut commons, &mut first, 0, 7)?;
+    let mut child = commons.birth(&mut first)?;
     assert_eq!(rt; commons.known(&child), 1);
     assert_eq!(rt; commons.room(&child), 0);
     assert_eq!(rt; place, 0);
-    let sent = post(&mut commons, &mut child, place + 1, 0, nil_word()).map_err(|_| "refused")?;
+    let sent = post(&mut commons, &mut child, place + 1, 0, nil_word())?;
     assert_eq!(rt; commons.look(&mut first), Some(sent));
     assert_eq!(rt; commons.look(&mut first), None);
     assert_eq!(rt; commons.entry(&mut first, sent), 256);
     let mut passes = Vec::new(rt.alloc());
     passes.push(first)?;
     passes.push(child)?;
-    let left = commons.close(passes).map_err(|_| "memory")?;
+    let left = commons.close(passes)?;
     assert_eq!(rt; left.claimed, 512);
     assert_eq!(rt; left.log.as_slice(), [6, 4102].as_slice());
     assert_eq!(rt; left.area.len(), 1024);
