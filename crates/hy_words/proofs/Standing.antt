@@ -1,7 +1,7 @@
 -- Laws of what words stand for.
 use Rattle.std.proofs.Common.{◌≡◌, ◌≢◌, ℕ, ℤ, ◌+◌, ◌<◌, ◌≤◌, ◌^◌, List, [], ◌∷◌, length, sym, refl, ap, ◌∙◌, subst, arith}
 use Rattle.std.specs.Prelude.{slice_index, pos, negsuc}
-use Rattle.hy_terms.specs.Labelled.{Labelled, labels_of}
+use Rattle.hy_terms.specs.Labelled.{Labelled, labels_of, IsLabelled, AreLabelled, IsShared, AreShared}
 use Rattle.hy_terms.specs.Labelled as l
 use Rattle.hy_terms.specs.declared.term.Colour.{Colour}
 use Rattle.hy_terms.specs.declared.term.Colour.TheVariants.{Private, Shared}
@@ -177,3 +177,37 @@ mutual
   parts_over heap area other c place ts e (no_parts d k) = no_parts d k
   parts_over heap area other c place ts e (more_parts Private k t rest may st more) = absurd cc
   parts_over heap area other c place ts e (more_parts Shared k t rest may st more) = more_parts Shared k t rest may (stands_over heap area other t (slice_index area k) may st) (parts_over heap area other Shared (k + 1) rest refl more)
+
+root_shared : (heap area : List ℕ) (t : Labelled) (w : ℕ) → Stands heap area t w → tag_of w ≢ 5 → IsShared t
+root_shared heap area t w (of_int n r) o = refl
+root_shared heap area t w (of_atom a r) o = refl
+root_shared heap area t w (of_pid p) o = refl
+root_shared heap area t w of_nil o = refl
+root_shared heap area t w (of_cons Private site place head tail r h q) o = absurd (o (omega arith))
+root_shared heap area t w (of_cons Shared site place head tail r h q) o = refl
+root_shared heap area t w (of_tuple Private site place parts r p h q) o = absurd (o (omega arith))
+root_shared heap area t w (of_tuple Shared site place parts r p h q) o = refl
+
+not_private : (c : Colour) (w : ℕ) → MayHold c w → c ≡ Shared → tag_of w ≢ 5
+not_private Private w may e = absurd cc
+not_private Shared w may e = may
+
+-- what a word stands for has no private child at a shared node
+mutual
+  pub stands_labelled : (heap area : List ℕ) (t : Labelled) (w : ℕ) → Stands heap area t w → IsLabelled t
+  stands_labelled heap area t w (of_int n r) = tt
+  stands_labelled heap area t w (of_atom a r) = tt
+  stands_labelled heap area t w (of_pid p) = tt
+  stands_labelled heap area t w of_nil = tt
+  stands_labelled heap area t w (of_cons c site place head tail r h q) =
+      let both = parts_labelled heap area c (place + 1) (head ∷ tail ∷ []) q in
+      let kept : c ≡ Shared → AreShared (labels_of (head ∷ tail ∷ [])) = both.1 in
+      ((λ e. let s = kept e in (s.0, s.1.0)), both.0.0, both.0.1.0)
+  stands_labelled heap area t w (of_tuple c site place parts r o h q) = let both = parts_labelled heap area c (place + 1) parts q in (both.1, both.0)
+
+  parts_labelled : (heap area : List ℕ) (c : Colour) (place : ℕ) (ts : List Labelled) → PartsStand heap area c place ts → AreLabelled (labels_of ts) × (c ≡ Shared → AreShared (labels_of ts))
+  parts_labelled heap area c place ts (no_parts d k) = (tt, λ e. tt)
+  parts_labelled heap area c place ts (more_parts d k t rest may st more) =
+      let both = parts_labelled heap area d (k + 1) rest more in
+      let x : ℕ = slice_index (words_of d heap area) k in
+      ((stands_labelled heap area t x st, both.0), λ e. (root_shared heap area t x st (not_private d x may e), both.1 e))

@@ -1,5 +1,5 @@
 //! Laws of what words stand for. These functions only carry them.
-ghost use Rattle.hy_words.specs.Laws.{GrowingKeepsTerms, OneWordOneTerm, AreaKeepsTerms};
+ghost use Rattle.hy_words.specs.Laws.{GrowingKeepsTerms, OneWordOneTerm, AreaKeepsTerms, WordsStandForLabelled};
 
 /// What a word stands for stays, whatever is appended to the heap and written into the area.
 pub fn growing_keeps_terms()
@@ -15,3 +15,9 @@ pub fn one_word_one_term()
 pub fn area_keeps_terms()
     ensures { AreaKeepsTerms }
 {}
+
+/// No shared node of what a word stands for has a private child.
+pub fn words_stand_for_labelled()
+    ensures { WordsStandForLabelled }
+{
+}

@@ -1,0 +1,52 @@
+-- What a pass knows: its cells, the areas that fit it, and what it may put and read. The project's own.
+use Rattle.std.specs.Prelude.{◌≡◌, ◌⊎◌, ℕ, ◌+◌, ◌<◌, ◌≤◌, List, length, slice_index, Some, None}
+use Rattle.hy_terms.specs.Labelled.{Labelled}
+use Rattle.hy_words.specs.Lists.{Grown, Has}
+use Rattle.hy_words.specs.Words.{tag_of, area_word_of, IsHeader, IsScalar, following}
+use Rattle.hy_words.specs.Stands.{Stands}
+use Rattle.hy_words.specs.Names.{NamesOnly}
+use Rattle.commons.specs.declared.view.View.{View}
+use Rattle.commons.specs.Area.{IsWhole, IsClosed}
+
+-- a pass knows a cell all of whose words it read or wrote, the cell of a known log word, and that of an area word which it read or wrote
+abbrev pub KnowsCellBy : (known seen : List ℕ) → ℕ → Type 0
+KnowsCellBy known seen cell = IsWhole seen cell ⊎ (Has known (area_word_of cell) ⊎ Has seen (area_word_of cell))
+
+abbrev pub KnowsCell : View → ℕ → Type 0
+KnowsCell v cell = KnowsCellBy v.known v.seen cell
+
+-- an area fits a pass where it is closed, agrees with the words that the pass read or wrote, and has each known cell whole
+pub record FitsBy (capacity : ℕ) (known seen area : List ℕ) : Type 0 where
+  pub sized : length area ≡ capacity
+  pub closed : IsClosed area
+  pub agrees : Grown seen area
+  pub whole : (cell : ℕ) → KnowsCellBy known seen cell → IsWhole area cell
+
+abbrev pub Fits : (capacity : ℕ) → View → List ℕ → Type 0
+Fits capacity v area = FitsBy capacity v.known v.seen area
+
+-- the place lies in a cell that the pass knows
+abbrev pub KnowsPlace : (capacity : ℕ) → View → ℕ → Type 0
+KnowsPlace capacity v place = (cell : ℕ) × KnowsCell v cell × ((area : List ℕ) → Fits capacity v area → (cell ≤ place) × (place ≤ cell + following (slice_index area cell)))
+
+-- a word that may be put: a header, a scalar, or the area word of a tuple or cons that the pass knows
+abbrev pub MayPut : (capacity : ℕ) → View → ℕ → Type 0
+MayPut capacity v word = IsHeader word ⊎ (IsScalar word ⊎ ((cell : ℕ) × (word ≡ area_word_of cell) × KnowsCell v cell × ((area : List ℕ) → Fits capacity v area → tag_of (slice_index area cell) < 9)))
+
+-- in each area that fits, the word stands for a labelled term, and the area words that are in the process's hands name known cells
+abbrev pub StandsFor : (capacity : ℕ) (heap : List ℕ) → View → ℕ → Type 0
+StandsFor capacity heap v w = (area : List ℕ) → Fits capacity v area → (t : Labelled) × Stands heap area t w × NamesOnly heap (KnowsCell v) t w
+
+-- what holds of each pass of a commons with such sizes, between calls
+pub record IsSound (area_size log_size : ℕ) (v : View) : Type 0 where
+  pub short : length v.known ≤ log_size
+  pub names_entries : (k : ℕ) → k < length v.known → tag_of (slice_index v.known k) ≡ 6
+  pub settled : v.told ≡ None
+  pub own_known : (place : ℕ) → Has v.own place → place < length v.known
+  pub own_late : (place : ℕ) → Has v.own place → v.pid ≤ place
+  pub pid_known : v.pid ≤ length v.known
+  pub unborn_own : (q : ℕ) → v.unborn ≡ Some q → (place : ℕ) × Has v.own place × (q ≡ place + 1)
+  pub ordered : v.block_start ≤ v.block_end
+  pub inside : v.block_end ≤ area_size
+  pub wide : length v.seen ≡ area_size
+  pub fits : (area : List ℕ) × Fits area_size v area

@@ -1,0 +1,16 @@
+//! The message area and the log that processes share, by what each pass knows of them.
+#![tactic(auto)]
+
+mod contract;
+mod entries;
+mod plain;
+mod plain_calls;
+mod plain_ends;
+#[cfg(test)]
+mod tests;
+mod view;
+
+pub use contract::{AreaFull, Commons, Link, LogFull};
+pub use entries::{put_print, put_send};
+pub use plain::{Final, PlainCommons, PlainPass};
+pub use view::{Refusal, View};

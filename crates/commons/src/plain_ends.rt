@@ -1,0 +1,60 @@
+//! The beginning and the end of the plain commons.
+ghost use Rattle.std.specs.Prelude.{◌≡◌, ◌+◌, ◌≤◌, IfOk, map};
+ghost use Rattle.std.specs.List.{All, AllPairs};
+ghost use Rattle.commons.specs.Rule.{first_view, IsAreaSize, IsLogSize};
+ghost use Rattle.commons.specs.Closing.{HasChildren, IsLeft};
+ghost use Rattle.commons.specs.Plain.{IsPassIn, IsApartIn, view_in, area_size_in, log_size_in};
+
+use crate::plain::{Account, Final, PlainCommons, PlainPass};
+use hy_terms::Memory;
+use std::alloc::Global;
+
+impl PlainCommons {
+    /// A commons with `area` words and `log` places of which none is written, and the pass with pid 0.
+    pub fn new(alloc: Global, area: u64, log: u64) -> Result<(PlainCommons, PlainPass), Memory>
+        requires area { IsAreaSize area }
+        requires log { IsLogSize log }
+        ensures sizes { IfOk result (λ r. (area_size_in r.0 ≡ area) × (log_size_in r.0 ≡ log)) }
+        ensures pass { IfOk result (λ r. IsPassIn r.0 r.1) }
+        ensures view { IfOk result (λ r. view_in r.0 r.1 ≡ first_view area) }
+    {
+        let words = vec![in alloc; 0u64; area as usize]?;
+        let entries = Vec::with_capacity(alloc, log as usize)?;
+        let mut accounts = Vec::new(alloc);
+        accounts.push(Account {
+            pid: 0,
+            parent: None,
+            known: 0,
+            unborn: None,
+            block_start: 0,
+            block_end: 0,
+            looks: 0,
+            puts: 0,
+            requests: 0,
+            refused: None,
+        })?;
+        let commons = PlainCommons {
+            claim: 0,
+            log: entries,
+            log_size: log,
+            area: words,
+            accounts,
+        };
+        Ok((commons, PlainPass { slot: 0, pid: 0 }))
+    }
+
+    /// The end of the commons, where all its passes are given back. It takes no memory.
+    pub fn close(self, passes: Vec<PlainPass>) -> Result<Final, Memory>
+        requires passes { All (λ p. IsPassIn self p) passes.items }
+        requires apart { AllPairs IsApartIn passes.items }
+        requires children { HasChildren (map (view_in self) passes.items) }
+        ensures { IfOk result (λ f. IsLeft (area_size_in self) (log_size_in self) f.claimed f.log.items f.area.items (map (view_in self) passes.items)) }
+    {
+        drop(passes);
+        Ok(Final {
+            log: self.log,
+            area: self.area,
+            claimed: self.claim,
+        })
+    }
+}
