@@ -3,7 +3,7 @@
 use crate::outside::gate::OpenGate;
 use crate::outside::memory_sink::MemorySink;
 use crate::outside::memory_sources::MemorySources;
-use crate::{Finish, TopFault, hybrid};
+use crate::{Finish, TopFault, fault_text, files, hybrid};
 use hy_terms::Words;
 use std::alloc::AllocGlobal;
 use std::test::Fail;
@@ -209,5 +209,24 @@ fn reads_a_text_of_the_most_bytes(rt: HostRuntime) -> Result<(), Fail> {
     let longer = long_text(&rt, (1 << 20) + 1)?;
     let told = run_file(&rt, longer.as_slice(), ROOM, Vec::new(rt.alloc()))?;
     assert_eq!(rt; told.0, refused(3, TopFault::NotBuilt));
+    Ok(())
+}
+
+#[test]
+fn says_why(rt: HostRuntime) -> Result<(), Fail> {
+    let mut words = Words::new(rt.alloc());
+    words.push("m.core")?;
+    let files = files(rt.alloc(), &words)?;
+    assert_eq!(rt; files.len(), 1);
+    let usage = fault_text(rt.alloc(), &TopFault::Usage, &files)?;
+    assert_eq!(rt; usage.as_slice(), b"hyb: usage\n".as_slice());
+    let read = fault_text(rt.alloc(), &TopFault::Read { file: 0 }, &files)?;
+    assert_eq!(rt; read.as_slice(), b"hyb: cannot read m.core\n".as_slice());
+    let not_built = fault_text(rt.alloc(), &TopFault::NotBuilt, &files)?;
+    assert_eq!(rt; not_built.as_slice(), b"hyb: not built\n".as_slice());
+    let write = fault_text(rt.alloc(), &TopFault::Write, &files)?;
+    assert_eq!(rt; write.as_slice(), b"hyb: write failed\n".as_slice());
+    let memory = fault_text(rt.alloc(), &TopFault::Memory, &files)?;
+    assert_eq!(rt; memory.as_slice(), b"hyb: out of memory\n".as_slice());
     Ok(())
 }
