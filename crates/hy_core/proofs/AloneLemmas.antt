@@ -1,5 +1,6 @@
 -- The run of a process that neither spawns nor receives, and only prints.
 use Rattle.std.proofs.Common.{◌≡◌, ℕ, suc, Bool, List, [], ◌∷◌, ◌++◌, map, length, Option, Some, None, if◌then◌else◌, refl, sym, ap, ◌∙◌, append_assoc, eq-eqb, ◌+◌, arith}
+use Rattle.std.proofs.lemmas.List.{append-nil, length-append, length-map}
 use Rattle.std.specs.Prelude.{slice_get}
 use Rattle.hy_core.specs.declared.class.Class.{Class}
 use Rattle.hy_core.specs.declared.step.Item.TheVariants as item
@@ -26,14 +27,6 @@ next_of : {A : Type 0} (past : List A) (x : A) (more : List A) → slice_get (pa
 next_of [] x more = refl
 next_of (y ∷ past) x more = next_of past x more
 
-one_longer : {A : Type 0} (past : List A) (x : A) → length (past ++ x ∷ []) ≡ suc (length past)
-one_longer [] x = refl
-one_longer (y ∷ past) x = ap suc (one_longer past x)
-
-append_nil : {A : Type 0} (xs : List A) → xs ++ [] ≡ xs
-append_nil [] = refl
-append_nil (x ∷ xs) = ap (◌∷◌ x) (append_nil xs)
-
 counted : {A : Type 0} → ℕ → List A → ℕ
 counted n [] = n
 counted n (x ∷ xs) = counted (suc n) xs
@@ -56,12 +49,12 @@ module _ {V W : Type 0} (runs : ℕ → ℕ → List V → List (Input V) → Re
   -- from what is past on, each event is carried out at the next place
   events_on : (main : ℕ) (past : List (Event V)) (done : ℕ) (more : List V) (output : List ℕ) → done ≡ length past → (runs 0 main [] []).events ≡ past ++ map Printed more → steps (events_from done (length more)) (Some (alone main done output)) ≡ Some (alone main (counted done more) (output ++ lines_of (map text_of more)))
   unfolding counted
-  events_on main past done [] output d p = ap (λ text. Some (alone main done text)) (sym (append_nil output))
+  events_on main past done [] output d p = ap (λ text. Some (alone main done text)) (sym (append-nil output))
   events_on main past done (t ∷ more) output d p =
       let e : Event V = Printed t in
       let rest = map Printed more in
       ap (steps (events_from (suc done) (length more))) (one_event main (past ++ e ∷ rest) done t output p (ap (slice_get (past ++ e ∷ rest)) d ∙ next_of past e rest))
-      ∙ events_on main (past ++ e ∷ []) (suc done) more (output ++ (text_of t ++ 10 ∷ [])) (ap suc d ∙ sym (one_longer past e)) (p ∙ sym (append_assoc past (e ∷ []) rest))
+      ∙ events_on main (past ++ e ∷ []) (suc done) more (output ++ (text_of t ++ 10 ∷ [])) (omega (arith, length-append past (e ∷ []), d)) (p ∙ sym (append_assoc past (e ∷ []) rest))
       ∙ ap (λ text. Some (alone main (counted (suc done) more) text)) (append_assoc output (text_of t ++ 10 ∷ []) (lines_of (map text_of more)))
 
 counted-is : {A : Type 0} (n : ℕ) (xs : List A) → counted n xs ≡ n + length xs
@@ -76,10 +69,6 @@ module _ {V W : Type 0} (runs : ℕ → ℕ → List V → List (Input V) → Re
       events_on runs accepts timeout text_of main [] 0 ts [] refl p
       ∙ ap (λ n. Some (alone main n (lines_of (map text_of ts)))) (counted-is 0 ts ∙ omega arith)
 
-length_of_map : {A B : Type 0} (f : A → B) (xs : List A) → length (map f xs) ≡ length xs
-length_of_map f [] = refl
-length_of_map f (x ∷ xs) = ap suc (length_of_map f xs)
-
 -- The full run of a program whose first process only prints, and its output.
 module _ (program : List FunctionTree) (atoms : List (List ℕ)) (limit : ℕ) (stopped : Process Term → Cause → Type 0) (main : ℕ) where
   abbrev does : Evaluated program atoms 0
@@ -89,7 +78,7 @@ module _ (program : List FunctionTree) (atoms : List (List ℕ)) (limit : ℕ) (
   text = term_text atoms
 
   through : (ts : List Term) → does.events ≡ map Printed ts → does.inputs ≡ [] → IsThrough (runs_of program atoms limit) (accepts atoms) (λ wait. wait.timeout) text (record { pid = 0; function = main; arguments = []; inputs = []; done = length ts; mailbox = [] })
-  through ts p q = record { events = sym (ap length p ∙ length_of_map Printed ts); inputs = q }
+  through ts p q = record { events = sym (ap length p ∙ length-map ts Printed); inputs = q }
 
   pub prints_and_ends : (ts : List Term) (value : Term) → does.events ≡ map Printed ts → does.inputs ≡ [] → does.end ≡ Values (value ∷ []) → IsFullRun program atoms limit stopped main (events_from 0 (length ts)) (Ended (text value) ∷ []) (lines_of (map text ts) ++ (outcome_line 0 (Ended (text value)) ++ []))
   prints_and_ends ts value p q e = record {

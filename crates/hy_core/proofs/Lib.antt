@@ -1,7 +1,12 @@
-pub mod BuiltParts
 pub mod AloneLemmas
+pub mod BuiltOf
+pub mod BuiltParts
+pub mod Forms
+pub mod MainLemmas
 pub mod Meanings
 pub mod Resolving
 pub mod Rules
 pub mod Runs
-pub mod MainLemmas
+pub mod Source
+pub mod Timing
+pub mod WorkedRuns

@@ -1,5 +1,5 @@
 -- What the forms of a source mean, from what their parts mean.
-use Rattle.std.proofs.Common.{◌≡◌, ℕ, ℤ, List, [], ◌∷◌, map, Option, Some, None, true, if◌then◌else◌, codes, refl, ap, ◌∙◌}
+use Rattle.std.proofs.Common.{◌≡◌, ℕ, ℤ, List, [], ◌∷◌, map, None, true, if◌then◌else◌, codes, refl, ap, ◌∙◌}
 use Rattle.std.specs.Str.{bytes_eq}
 use Rattle.hy_terms.specs.Term as term
 use Rattle.hy_terms.specs.Term.{Term}
@@ -9,15 +9,16 @@ use Rattle.hy_core.specs.declared.tree.Expr.{Expr}
 use Rattle.hy_core.specs.declared.tree.Expr.TheVariants as e
 use Rattle.hy_core.specs.declared.tree.Expr.TheOpen as layer
 use Rattle.hy_core.specs.declared.tree.FunName.{FunName}
-use Rattle.hy_core.specs.BuiltIn.{Answer, Value, Raises, answer, truth, operation_of}
+use Rattle.hy_core.specs.BuiltIn.{answer, truth, operation_of}
 use Rattle.hy_core.specs.Computation.{Input, Values, then_run, with_one, ended}
-use Rattle.hy_core.specs.Evaluation.{Doing, Evaluated, eval, evaluated, denote, answered, answer_end, value_of, value_end, in_env, act_on}
+use Rattle.hy_core.specs.Evaluation.{Doing, Evaluated, eval, evaluated, denote, answer_end, value_end, in_env, act_on}
 use Rattle.hy_core.specs.Event.{Printed}
 use Rattle.hy_core.specs.Match.{Env, Bound, lookup, bind_variables}
 use Rattle.hy_core.specs.Meaning.{meaning, inside, first_argument}
 use Rattle.hy_core.specs.Resolve.{Names, Place, Part, expr_step, part_of, resolved, place_after, erlang_operation, named_call}
 use Rattle.hy_core.specs.Resolved as r
 use Rattle.hy_core.specs.Resolved.{FunctionTree, Expression}
+use Rattle.hy_core.proofs.Forms.{value_ended, answer_ended}
 use Rattle.hy_core.proofs.Resolving.{part_of-Int, part_of-Atom, part_of-Var, part_of-Let, part_of-Do, part_of-Call}
 use Rattle.hy_core.proofs.Rules.{evaluated_bind, evaluated_single, evaluated_one_argument, evaluated_two_arguments, then_same, then_same_one}
 
@@ -38,12 +39,8 @@ module _ (program : List FunctionTree) (atoms : List (List ℕ)) (names : Names)
   pub meaning-Atom : (locals : List FunName) (place : Place) (n : ℕ) (env : Env) (a : ℕ) (ins : List (Input Term)) → means locals place n env (e.Atom a) ins ≡ ended n ins (Values (term.Atom a ∷ []))
   meaning-Atom locals place n env a ins = ap (part_means locals place n env ins) (part_of-Atom names current a)
 
-  value_ended : (n : ℕ) (ins : List (Input Term)) (o : Option Term) → ran n (value_of o) ins ≡ ended n ins (value_end o)
-  value_ended n ins None = refl
-  value_ended n ins (Some t) = refl
-
   pub meaning-Var : (locals : List FunName) (place : Place) (n : ℕ) (env : Env) (x : ℕ) (ins : List (Input Term)) → means locals place n env (e.Var x) ins ≡ ended n ins (value_end (lookup x env))
-  meaning-Var locals place n env x ins = ap (part_means locals place n env ins) (part_of-Var names current x) ∙ value_ended n ins (lookup x env)
+  meaning-Var locals place n env x ins = ap (part_means locals place n env ins) (part_of-Var names current x) ∙ value_ended program atoms pid n ins (lookup x env)
 
   one_bound : (k : Env → Doing) (x : ℕ) (env : Env) (ts : List Term) (m : ℕ) (jns : List (Input Term)) → ran m (in_env k (bind_variables (x ∷ []) ts env)) jns ≡ with_one (λ t m jns. ran m (k (Bound x t env)) jns) ts m jns
   one_bound k x env [] m jns = refl
@@ -79,10 +76,6 @@ module _ (program : List FunctionTree) (atoms : List (List ℕ)) (names : Names)
       ap (λ name. if bytes_eq name (codes "erlang") then operation_of (text_of names.atoms f) arity else None) p
       ∙ ap (λ name. operation_of name arity) q
 
-  answer_ended : (n : ℕ) (ins : List (Input Term)) (a : Answer) → ran n (answered a) ins ≡ ended n ins (answer_end a)
-  answer_ended n ins (Value t) = refl
-  answer_ended n ins (Raises class reason) = refl
-
   -- a call of `+`: both arguments from left to right, and then the answer
   pub meaning-plus : (locals : List FunName) (place : Place) (n : ℕ) (env : Env) (m f : ℕ) (a b : Expr) (ins : List (Input Term)) → text_of names.atoms m ≡ codes "erlang" → text_of names.atoms f ≡ codes "+" → means locals place n env (e.Call (e.Atom m) (e.Atom f) (a ∷ b ∷ [])) ins ≡ then_run (means locals (first_argument place) n env a ins) (with_one (λ t m jns. then_run (means locals (place_after names current locals (first_argument place) a) m env b jns) (with_one (λ u l kns. ended l kns (answer_end (answer atoms pid Add (t ∷ u ∷ [])))))))
   meaning-plus locals place n env m f a b ins p q =
@@ -92,7 +85,7 @@ module _ (program : List FunctionTree) (atoms : List (List ℕ)) (names : Names)
       ∙ ap (λ o. eval program atoms pid n env (named_call names current place.node m f o (map (part_of names current) (a ∷ b ∷ [])) locals (first_argument place)).0 ins) (erlang_operation_named m f 2 (codes "+") p q)
       ∙ evaluated_two_arguments program atoms pid n first second env (act_on atoms pid (r.BuiltIn Add) env) ins
       ∙ then_same_one program atoms pid n (denote atoms pid first env) ins _ _ (λ t l jns.
-      then_same_one program atoms pid l (denote atoms pid second env) jns _ _ (λ u k kns. answer_ended k kns (answer atoms pid Add (t ∷ u ∷ []))))
+      then_same_one program atoms pid l (denote atoms pid second env) jns _ _ (λ u k kns. answer_ended program atoms pid k kns (answer atoms pid Add (t ∷ u ∷ []))))
 
   -- a call of `display`: the argument, and then the event, whose value is 'true'
   pub meaning-display : (locals : List FunName) (place : Place) (n : ℕ) (env : Env) (m f : ℕ) (a : Expr) (ins : List (Input Term)) → text_of names.atoms m ≡ codes "erlang" → text_of names.atoms f ≡ codes "display" → means locals place n env (e.Call (e.Atom m) (e.Atom f) (a ∷ [])) ins ≡ then_run (means locals (first_argument place) n env a ins) (with_one (λ t l jns. record { events = Printed t ∷ []; calls = l; inputs = jns; end = Values (truth true ∷ []) }))

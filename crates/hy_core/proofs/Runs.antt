@@ -1,5 +1,6 @@
 -- Laws of computations and of their runs.
 use Rattle.std.proofs.Common.{◌≡◌, ℕ, zero, suc, List, [], ◌∷◌, ◌++◌, refl, sym, ap, ◌∙◌}
+use Rattle.std.proofs.lemmas.List.{append-nil}
 use Rattle.std.proofs.Math.Path.{fun_ext}
 use Rattle.hy_core.specs.Computation.{Computation, Give, Raise, Fault, Act, Call, Birth, Receive, attempt, bind, Input, Got, Lapsed, Born, Outcome, Values, Raised, Needs, NeedsPid, Spent, Wrong, Moment, Did, Used, Run, run, after, after_all, stop, dones, result_of, with_values, then_run}
 
@@ -77,13 +78,9 @@ dones-append [] ns = refl
 dones-append (Did b ∷ ms) ns = ap (◌∷◌ b) (dones-append ms ns)
 dones-append (Used i ∷ ms) ns = dones-append ms ns
 
-append_nil : {A : Type 0} (xs : List A) → xs ++ [] ≡ xs
-append_nil [] = refl
-append_nil (x ∷ xs) = ap (◌∷◌ x) (append_nil xs)
-
 result_of_go_on : {V C B W : Type 0} (ms : List (Moment V B)) (n : ℕ) (ins : List (Input V)) (e : Outcome V C W) (k : List V → ℕ → List (Input V) → Run V C B W) → result_of (go_on ms n ins e k (λ c v m jns. stop m jns (Raised c v))) ≡ with_values (dones ms) n ins e (λ vs m jns. result_of (k vs m jns))
 result_of_go_on ms n ins (Values vs) k = let r = k vs n ins in ap (λ events. record { events = events; calls = r.calls; inputs = r.inputs; end = r.end }) (dones-append ms r.moments)
-result_of_go_on ms n ins (Raised c v) k = ap (λ events. record { events = events; calls = n; inputs = ins; end = Raised c v }) (ap dones (append_nil ms))
+result_of_go_on ms n ins (Raised c v) k = ap (λ events. record { events = events; calls = n; inputs = ins; end = Raised c v }) (ap dones (append-nil ms))
 result_of_go_on ms n ins (Needs w) k = refl
 result_of_go_on ms n ins NeedsPid k = refl
 result_of_go_on ms n ins Spent k = refl

@@ -24,10 +24,12 @@ abbrev pub own_atoms : List (List ℕ)
 own_atoms =
     codes "true" ∷ codes "false" ∷ codes "badarith" ∷ codes "badarg" ∷ codes "system_limit" ∷ codes "no_clause" ∷ codes "function_clause" ∷ []
 
+-- truth values are the atoms 'true' and 'false'
 abbrev pub truth : Bool → Term
 truth true = Atom 0
 truth false = Atom 1
 
+-- the reasons of errors
 abbrev pub badarith : Answer
 badarith = Raises Error (Atom 2)
 
@@ -37,6 +39,7 @@ badarg = Raises Error (Atom 3)
 abbrev pub system_limit : Answer
 system_limit = Raises Error (Atom 4)
 
+-- what a case without a clause raises, and what match_fail reads
 abbrev pub no_clause : Term
 no_clause = Atom 5
 
@@ -45,10 +48,12 @@ function_clause = Atom 6
 
 -- terms by their kinds
 
+-- the number that a term is
 abbrev pub number : Term → Option ℤ
 number (Int n) = Some n
 number _ = None
 
+-- the truth value that a term is
 abbrev pub truth_value : Term → Option Bool
 truth_value (Atom a) = if a == 0 then Some true else (if a == 1 then Some false else None)
 truth_value _ = None
@@ -69,6 +74,7 @@ abbrev pub is_pid : Term → Bool
 is_pid (Pid p) = true
 is_pid _ = false
 
+-- a list is cons or nil
 abbrev pub is_list : Term → Bool
 is_list Nil = true
 is_list (Cons h t) = true
@@ -90,6 +96,7 @@ abbrev pub on_number : Answer → (ℤ → Answer) → Option ℤ → Answer
 on_number refusal f None = refusal
 on_number refusal f (Some n) = f n
 
+-- both arguments have to be numbers
 abbrev pub on_numbers : (ℤ → ℤ → Answer) → Option ℤ → Option ℤ → Answer
 on_numbers f (Some n) (Some m) = f n m
 on_numbers f (Some n) None = badarith
@@ -109,6 +116,7 @@ bits f n m = in_range (f n m)
 
 -- truth values
 
+-- both arguments have to be truth values
 abbrev pub on_truths : (Bool → Bool → Bool) → Option Bool → Option Bool → Answer
 on_truths f (Some v) (Some w) = Value (truth (f v w))
 on_truths f (Some v) None = badarg
@@ -124,6 +132,7 @@ exclusive_or false w = w
 
 -- order
 
+-- tests of an order
 abbrev pub is_less : Ordering → Bool
 is_less Less = true
 is_less Equal = false
@@ -175,6 +184,7 @@ abbrev pub with_element : Term → Term → Term → Option Term
 with_element (Int (pos (suc k))) (Tuple ts) v = option_terms Tuple (with_part k ts v)
 with_element _ _ v = None
 
+-- hd and tl
 abbrev pub head_of : Term → Option Term
 head_of (Cons h t) = Some h
 head_of _ = None
@@ -193,6 +203,7 @@ abbrev pub or_no_length : Option ℕ → Answer
 or_no_length None = badarg
 or_no_length (Some n) = Value (Int (pos n))
 
+-- tuple_size
 abbrev pub size_answer : Term → Answer
 size_answer (Tuple ts) = Value (Int (pos (size_of ts)))
 size_answer _ = badarg
@@ -210,9 +221,11 @@ abbrev pub of_two : (Term → Term → Answer) → List Term → Answer
 of_two f (t ∷ u ∷ []) = f t u
 of_two f _ = badarg
 
+-- a test of a term's kind gives a truth value
 abbrev pub test : (Term → Bool) → List Term → Answer
 test f = of_one (λ t. Value (truth (f t)))
 
+-- arithmetic of two numbers, and logic of two truth values
 abbrev pub arithmetic : (ℤ → ℤ → Answer) → List Term → Answer
 arithmetic f = of_two (λ t u. on_numbers f (number t) (number u))
 
@@ -220,6 +233,7 @@ abbrev pub logic : (Bool → Bool → Bool) → List Term → Answer
 logic f = of_two (λ t u. on_truths f (truth_value t) (truth_value u))
 
 module _ (atoms : List (List ℕ)) where
+  -- a comparison gives a truth value, by the order of terms
   abbrev pub comparison : (Ordering → Bool) → List Term → Answer
   comparison f = of_two (λ t u. Value (truth (f (compare atoms t u))))
 
@@ -270,6 +284,7 @@ pub data Operation : Type 0 where
   Displays : Operation
   RaisesAs : Class → Operation
 
+-- a name with its number of arguments
 pub record Row : Type 0 where
   pub name : List ℕ
   pub arity : ℕ
@@ -278,6 +293,7 @@ pub record Row : Type 0 where
 abbrev pub row : List ℕ → ℕ → Operation → Row
 row name arity operation = record { name = name; arity = arity; operation = operation }
 
+-- all built-ins of the module 'erlang'
 abbrev pub operations : List Row
 operations =
     row (codes "+") 2 (Plain b.Add) ∷ row (codes "-") 2 (Plain b.Sub) ∷ row (codes "*") 2 (Plain b.Mul) ∷ row (codes "-") 1 (Plain b.Neg)

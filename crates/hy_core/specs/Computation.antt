@@ -1,6 +1,6 @@
 -- What a process still has to do, as a tree that waits for calls, inputs and values: this project's
 -- own form of evaluation.
-use Rattle.std.specs.Prelude.{ℕ, zero, suc, List, [], ◌∷◌, ◌++◌}
+use Rattle.std.specs.Prelude.{◌≡◌, ℕ, zero, suc, List, [], ◌∷◌, ◌++◌}
 
 -- what comes to a process from outside: a message that it takes, the lapse of a timeout, or the pid of
 -- a process that it spawned
@@ -59,6 +59,7 @@ pub record Run (V C B W : Type 0) : Type 0 where
   pub inputs : List (Input V)
   pub end : Outcome V C W
 
+-- nothing more happens, and something happens first
 abbrev pub stop : {V C B W : Type 0} → ℕ → List (Input V) → Outcome V C W → Run V C B W
 stop calls inputs end = record { moments = []; calls = calls; inputs = inputs; end = end }
 
@@ -72,7 +73,7 @@ after_all (b ∷ bs) r = after (Did b) (after_all bs r)
 -- did: what is done by an act; note: what is done by a call itself; body: the body of a function
 module _ {V C F A W B : Type 0} (did : A → B) (note : List B) (body : F → List V → Computation V C F A W) where
   -- by recursion on the calls left, and then on the computation: a call costs one call, a spawn and a
-  -- receive use one input each
+  -- receive use one input each, and an input of another kind than is due is not used
   abbrev pub run : ℕ → Computation V C F A W → List (Input V) → Run V C B W
   run n (Give vs) inputs = stop n inputs (Values vs)
   run n (Raise c v) inputs = stop n inputs (Raised c v)
@@ -82,12 +83,12 @@ module _ {V C F A W B : Type 0} (did : A → B) (note : List B) (body : F → Li
   run (suc n) (Call f vs k h) inputs = after_all note (run n (attempt (body f vs) k h) inputs)
   run n (Birth k) [] = stop n [] NeedsPid
   run n (Birth k) (Born pid ∷ inputs) = after (Used (Born pid)) (run n (k pid) inputs)
-  run n (Birth k) (Got v ∷ inputs) = stop n inputs Wrong
-  run n (Birth k) (Lapsed ∷ inputs) = stop n inputs Wrong
+  run n (Birth k) (Got v ∷ inputs) = stop n (Got v ∷ inputs) Wrong
+  run n (Birth k) (Lapsed ∷ inputs) = stop n (Lapsed ∷ inputs) Wrong
   run n (Receive w k p) [] = stop n [] (Needs w)
   run n (Receive w k p) (Got v ∷ inputs) = after (Used (Got v)) (run n (k v) inputs)
   run n (Receive w k p) (Lapsed ∷ inputs) = after (Used Lapsed) (run n p inputs)
-  run n (Receive w k p) (Born pid ∷ inputs) = stop n inputs Wrong
+  run n (Receive w k p) (Born pid ∷ inputs) = stop n (Born pid ∷ inputs) Wrong
 
 -- the moments at which something is done, and those at which an input is used
 abbrev pub dones : {V B : Type 0} → List (Moment V B) → List B
@@ -107,6 +108,7 @@ pub record Result (V C B W : Type 0) : Type 0 where
   pub inputs : List (Input V)
   pub end : Outcome V C W
 
+-- what happened without the uses of inputs between
 abbrev pub result_of : {V C B W : Type 0} → Run V C B W → Result V C B W
 result_of r = record { events = dones r.moments; calls = r.calls; inputs = r.inputs; end = r.end }
 
@@ -132,3 +134,17 @@ abbrev pub with_one : {V C B W : Type 0} → (V → ℕ → List (Input V) → R
 with_one k [] calls inputs = ended calls inputs Wrong
 with_one k (v ∷ []) calls inputs = k v calls inputs
 with_one k (v ∷ u ∷ vs) calls inputs = ended calls inputs Wrong
+
+-- the input is of the kind for which the end waits
+abbrev pub IsDue : {V C W : Type 0} → Outcome V C W → Input V → Type 0
+IsDue (Needs w) (Got v) = Unit {0}
+IsDue (Needs w) Lapsed = Unit {0}
+IsDue NeedsPid (Born pid) = Unit {0}
+IsDue _ _ = ⊥
+
+-- where a run stands at an input that it uses: this happened before, all inputs before it are used up, and
+-- the run waits for an input of its kind
+pub record StandsBefore {V C B W : Type 0} (r : Run V C B W) (before : List (Moment V B)) (i : Input V) : Type 0 where
+  pub moments : r.moments ≡ before
+  pub inputs : r.inputs ≡ []
+  pub due : IsDue r.end i

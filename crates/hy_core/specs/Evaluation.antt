@@ -7,7 +7,7 @@ use Rattle.hy_terms.specs.Term.{Term, Terms, MoreTerms, terms_of}
 use Rattle.hy_core.specs.declared.class.Class.{Class}
 use Rattle.hy_core.specs.declared.class.Class.TheVariants.{Error}
 use Rattle.hy_core.specs.declared.tree.FunName.{FunName}
-use Rattle.hy_core.specs.Computation.{Computation, Give, Raise, Fault, Act, Call, Birth, Receive, bind, Input, Outcome, Values, Raised, Wrong, run, Result, result_of}
+use Rattle.hy_core.specs.Computation.{Computation, Give, Raise, Fault, Act, Call, Birth, Receive, bind, Input, Outcome, Values, Raised, Wrong, Run, run, Result, result_of}
 use Rattle.hy_core.specs.Event.{Event, Sent, Spawned, Printed}
 use Rattle.hy_core.specs.Resolved as r
 use Rattle.hy_core.specs.Resolved.{Patterns, Head, BuiltIn, Function, Local, Setelement, Send, Spawn, Display, Raising, MatchFail, Timeout, AtOnce, Never, Expression, Expressions, NoExpressions, MoreExpressions, Clauses, NoClauses, MoreClauses, Functions, NoFunctions, MoreFunctions, FunctionTree, is_name}
@@ -25,9 +25,11 @@ pub record Wait : Type 0 where
   pub clauses : Clauses
   pub timeout : Timeout
 
+-- what a process still has to do
 abbrev pub Doing : Type 0
 Doing = Computation Term Class Callee (Event Term) Wait
 
+-- one value
 abbrev pub give : Term → Doing
 give t = Give (t ∷ [])
 
@@ -37,26 +39,32 @@ single k [] = Fault
 single k (t ∷ []) = k t
 single k (t ∷ u ∷ ts) = Fault
 
+-- where as many values as variables are there
 abbrev pub in_env : (Env → Doing) → Option Env → Doing
 in_env k None = Fault
 in_env k (Some env) = k env
 
+-- a message that no clause accepts is no input of an accepted program
 abbrev pub or_fault : Option Doing → Doing
 or_fault None = Fault
 or_fault (Some p) = p
 
+-- a case without a clause raises
 abbrev pub or_no_clause : Option Doing → Doing
 or_no_clause None = Raise Error no_clause
 or_no_clause (Some p) = p
 
+-- a variable that is bound
 abbrev pub value_of : Option Term → Doing
 value_of None = Fault
 value_of (Some t) = give t
 
+-- the answer of a built-in
 abbrev pub answered : Answer → Doing
 answered (Value t) = give t
 answered (Raises class reason) = Raise class reason
 
+-- the ends of an answer and of a variable
 abbrev pub answer_end : Answer → Outcome Term Class Wait
 answer_end (Value t) = Values (t ∷ [])
 answer_end (Raises class reason) = Raised class reason
@@ -98,18 +106,22 @@ abbrev pub fail_reason : Term → Term
 fail_reason (term.Tuple (MoreTerms (term.Atom a) ts)) = if a == 6 then function_clause else term.Tuple (MoreTerms (term.Atom a) ts)
 fail_reason t = t
 
+-- a send is an event and gives its message; its target has to be a pid
 abbrev pub send : List Term → Doing
 send (term.Pid to ∷ t ∷ []) = Act (Sent to t) (give t)
 send _ = answered badarg
 
+-- a print is an event and gives 'true'
 abbrev pub display : List Term → Doing
 display (t ∷ []) = Act (Printed t) (give (truth true))
 display _ = Fault
 
+-- error, exit and throw raise their argument
 abbrev pub raise : Class → List Term → Doing
 raise class (t ∷ []) = Raise class t
 raise class _ = Fault
 
+-- match_fail raises an error
 abbrev pub fail : List Term → Doing
 fail (t ∷ []) = Raise Error (fail_reason t)
 fail _ = Fault
@@ -128,10 +140,12 @@ abbrev pub holds : Doing → Bool
 holds (Give (t ∷ [])) = is_true t
 holds _ = false
 
+-- this clause where it matches and its guard holds, else the others
 abbrev pub first_of_two : Option Env → (Env → Bool) → (Env → Doing) → Option Doing → Option Doing
 first_of_two None guard body others = others
 first_of_two (Some env) guard body others = if guard env then Some (body env) else others
 
+-- only a timeout of 0 lapses
 abbrev pub lapse : Timeout → Doing → Doing
 lapse AtOnce p = p
 lapse Never p = Fault
@@ -193,12 +207,16 @@ module _ (program : List FunctionTree) (atoms : List (List ℕ)) (pid : ℕ) whe
   body_of (Top f) ts = enter (slice_get program f) ts Empty
   body_of (Inner f fs env) ts = enter (function_named f fs) ts (Locals fs env)
 
+  -- events, calls left, inputs left, and how far it came
   abbrev pub Evaluated : Type 0
   Evaluated = Result Term Class (Event Term) Wait
 
-  -- a computation, with so many calls and these inputs
+  -- a computation, with so many calls and these inputs: a call does nothing that others see
+  abbrev pub run_of : (calls : ℕ) → Doing → List (Input Term) → Run Term Class (Event Term) Wait
+  run_of calls p inputs = run (λ e. e) [] body_of calls p inputs
+
   abbrev pub evaluated : (calls : ℕ) → Doing → List (Input Term) → Evaluated
-  evaluated calls p inputs = result_of (run (λ e. e) [] body_of calls p inputs)
+  evaluated calls p inputs = result_of (run_of calls p inputs)
 
   -- an expression
   abbrev pub eval : (calls : ℕ) → Env → Expression → List (Input Term) → Evaluated

@@ -8,10 +8,12 @@ use Rattle.hy_core.specs.declared.end.Cause.{Cause}
 use Rattle.hy_core.specs.declared.end.End.{End}
 use Rattle.hy_core.specs.declared.info.FunInfo.{FunInfo}
 use Rattle.hy_core.specs.declared.step.Step.{Step}
+use Rattle.hy_core.specs.declared.tree.Module.{Module}
 use Rattle.hy_core.specs.Computation.{Input}
 use Rattle.hy_core.specs.Evaluation.{Evaluated, evaluated, body_of, Top, accepts}
 use Rattle.hy_core.specs.Machine.{Process, Configuration, after_steps, start, IsFull}
 use Rattle.hy_core.specs.Output.{run_output}
+use Rattle.hy_core.specs.Resolve.{Names, function_trees}
 use Rattle.hy_core.specs.Resolved.{FunctionTree}
 
 -- the number of 'main'/0 of a module
@@ -20,6 +22,10 @@ main_number atoms [] m = None
 main_number atoms (i ∷ is) m =
     if (i.module == m) && (bytes_eq (text_of atoms i.name.name) (codes "main") && (i.name.arity == 0)) then Some 0
     else one_on (main_number atoms is m)
+
+-- no process is stopped
+abbrev pub NeverStopped : Process Term → Cause → Type 0
+NeverStopped p cause = ⊥
 
 -- limit: the calls of each process
 module _ (program : List FunctionTree) (atoms : List (List ℕ)) (limit : ℕ) where
@@ -35,3 +41,14 @@ module _ (program : List FunctionTree) (atoms : List (List ℕ)) (limit : ℕ) w
   pub record IsFullRun (stopped : Process Term → Cause → Type 0) (main : ℕ) (steps : List Step) (ends : List End) (output : List ℕ) : Type 0 where
     pub full : IsFull runs_of (accepts atoms) (λ wait. wait.timeout) (term_text atoms) stopped main steps ends
     pub writes : run_output full.last ends ≡ output
+
+-- the first module's 'main'/0
+abbrev pub main_of : Names → List Module → Option ℕ
+main_of names [] = None
+main_of names (m ∷ ms) = main_number names.atoms names.functions m.name
+
+-- a full run of the program of these modules, with these ends and this output
+pub record IsRunOf (names : Names) (modules : List Module) (limit : ℕ) (stopped : Process Term → Cause → Type 0) (steps : List Step) (ends : List End) (output : List ℕ) : Type 0 where
+  pub main : ℕ
+  pub is_main : main_of names modules ≡ Some main
+  pub run : IsFullRun (function_trees names modules) names.atoms limit stopped main steps ends output

@@ -1,12 +1,14 @@
 pub use Rattle.hy_terms.specs.Naming
 pub mod Alone
 pub mod BuiltIn
+pub mod BuiltInTable
 pub mod Built
 pub mod Bytes
 pub mod Computation
 pub mod Evaluation
+pub mod Evaluated
+pub mod EvaluationLaws
 pub mod Event
-pub mod Examples
 pub mod FullRun
 pub mod Grammar
 pub mod Machine
@@ -16,5 +18,8 @@ pub mod Meaning
 pub mod Output
 pub mod Reading
 pub mod Resolve
+pub mod ResolvedExample
 pub mod Resolved
+pub mod Source
 pub mod Tokens
+pub mod Worked

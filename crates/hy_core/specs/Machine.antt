@@ -18,6 +18,7 @@ pub record Message (V : Type 0) : Type 0 where
   pub place : ℕ
   pub term : V
 
+-- a process: what it began with, what came to it since, and how far it is carried out
 pub record Process (V : Type 0) : Type 0 where
   pub pid : ℕ
   pub function : ℕ
@@ -27,6 +28,7 @@ pub record Process (V : Type 0) : Type 0 where
   pub done : ℕ
   pub mailbox : List (Message V)
 
+-- the processes in the order of their pids
 pub record Configuration (V : Type 0) : Type 0 where
   pub processes : List (Process V)
   -- the number of events so far
@@ -41,6 +43,7 @@ fresh pid function arguments = record { pid = pid; function = function; argument
 abbrev pub start : {V : Type 0} → (main : ℕ) → Configuration V
 start main = record { processes = fresh 0 main [] ∷ []; events = 0; output = [] }
 
+-- the process of a pid, and a change of it alone
 abbrev pub process_of : {V : Type 0} → ℕ → List (Process V) → Option (Process V)
 process_of pid [] = None
 process_of pid (p ∷ ps) = if p.pid == pid then Some p else process_of pid ps
@@ -49,6 +52,7 @@ abbrev pub with_process : {V : Type 0} → ℕ → (Process V → Process V) →
 with_process pid f [] = []
 with_process pid f (p ∷ ps) = (if p.pid == pid then f p else p) ∷ with_process pid f ps
 
+-- what a step changes in a process
 abbrev pub with_input : {V : Type 0} → Input V → Process V → Process V
 with_input i p = record p { inputs = p.inputs ++ i ∷ [] }
 
@@ -66,6 +70,7 @@ without place (m ∷ ms) = if m.place == place then ms else m ∷ without place 
 abbrev pub with_taken : {V : Type 0} → Message V → Process V → Process V
 with_taken m p = record p { mailbox = without m.place p.mailbox; inputs = p.inputs ++ Got m.term ∷ [] }
 
+-- the first message, in the order of the mailbox, that is accepted
 abbrev pub first_accepted : {V : Type 0} → (V → Bool) → List (Message V) → Option (Message V)
 first_accepted accepts [] = None
 first_accepted accepts (m ∷ ms) = if accepts m.term then Some m else first_accepted accepts ms
@@ -87,15 +92,18 @@ module _ {V W : Type 0} (runs : ℕ → ℕ → List V → List (Input V) → Re
       record c { processes = with_process pid (with_input (Born (suc c.events))) c.processes ++ fresh (suc c.events) f ts ∷ []; events = suc c.events }
   carried_out pid (Printed t) c = record c { output = c.output ++ (text_of t ++ 10 ∷ []); events = suc c.events }
 
+  -- an event stands at the place that is the number of events before it
   abbrev pub event_step : ℕ → Process V → Option (Event V) → Configuration V → Option (Configuration V)
   event_step place p None c = None
   event_step place p (Some e) c =
       if_at place c.events (carried_out p.pid e (record c { processes = with_process p.pid with_event_done c.processes }))
 
+  -- a take is of the first message that is accepted
   abbrev pub take_of : ℕ → Process V → Option (Message V) → Configuration V → Option (Configuration V)
   take_of place p None c = None
   take_of place p (Some m) c = if_at m.place place (record c { processes = with_process p.pid (with_taken m) c.processes })
 
+  -- a lapse is at timeout 0, where no message is accepted, and tells the number of events
   abbrev pub lapse_of : ℕ → Process V → Timeout → Option (Message V) → Configuration V → Option (Configuration V)
   lapse_of seen p AtOnce None c = if_at seen c.events (record c { processes = with_process p.pid (with_input Lapsed) c.processes })
   lapse_of seen p AtOnce (Some m) c = None
@@ -113,6 +121,7 @@ module _ {V W : Type 0} (runs : ℕ → ℕ → List V → List (Input V) → Re
   abbrev pub is_done : Process V → Bool
   is_done p = p.done == length (activity p).events
 
+  -- a process takes or lapses only where all its events are carried out
   abbrev pub process_step : Item → Process V → Configuration V → Option (Configuration V)
   process_step (item.Event place) p c = event_step place p (slice_get (activity p).events p.done) c
   process_step (item.Took place) p c = if is_done p then take_step place p (activity p).end c else None
@@ -137,18 +146,21 @@ module _ {V W : Type 0} (runs : ℕ → ℕ → List V → List (Input V) → Re
     pub events : p.done ≡ length (activity p).events
     pub inputs : (activity p).inputs ≡ []
 
+  -- it gave one value, with this text
   pub record HasEnded (p : Process V) (text : List ℕ) : Type 0 where
     pub through : IsThrough p
     pub value : V
     pub end : (activity p).end ≡ Values (value ∷ [])
     pub printed : text_of value ≡ text
 
+  -- it raised, with this class and this text of the reason
   pub record HasRaised (p : Process V) (class : Class) (text : List ℕ) : Type 0 where
     pub through : IsThrough p
     pub reason : V
     pub end : (activity p).end ≡ outcome.Raised class reason
     pub printed : text_of reason ≡ text
 
+  -- it waits for good: without a timeout, and with no message that it accepts
   pub record IsWaiting (p : Process V) : Type 0 where
     pub events : p.done ≡ length (activity p).events
     pub wait : W

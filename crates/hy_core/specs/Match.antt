@@ -11,6 +11,7 @@ pub data Env : Type 0 where
   Bound : (variable : ℕ) → Term → Env → Env
   Locals : Functions → Env → Env
 
+-- what a variable is bound to, by its innermost binding
 abbrev pub lookup : ℕ → Env → Option Term
 lookup x Empty = None
 lookup x (Bound y t env) = if x == y then Some t else lookup x env

@@ -1,5 +1,6 @@
 -- From the trees of a program to expressions in which each call says what it calls, and each event and
--- each place that builds has its number.
+-- each place that builds has its number. What an applied name and a call name is as in the Core Erlang
+-- 1.0.3 report; which built-ins there are, the guard form of `try`, and all numbers are this project's own.
 use Rattle.std.specs.Prelude.{ℕ, suc, ◌+◌, ◌==◌, ◌&&◌, ◌||◌, if◌then◌else◌, List, [], ◌∷◌, ◌++◌, map, length, codes, Option, Some, None, Bool, true, false, ℤ, pos}
 use Rattle.std.specs.Ordering.{int_eq}
 use Rattle.std.specs.Str.{bytes_eq}
@@ -30,8 +31,8 @@ abbrev pub function_number : List FunInfo → (module_name : ℕ) → FunName �
 function_number [] m f = None
 function_number (i ∷ is) m f = if (i.module == m) && is_name i.name f then Some 0 else one_on (function_number is m f)
 
--- the next node of a function, and the next site of the program: this project's own numbering, in the
--- order of the canonical text
+-- the next node of a function, and the next site of the program. Both go by the text: an expression or a
+-- pattern is a node before its parts are, and what builds has its sites before its parts have theirs.
 pub record Place : Type 0 where
   pub node : ℕ
   pub site : ℕ
@@ -40,9 +41,11 @@ pub record Place : Type 0 where
 abbrev pub Making : Type 0 → Type 0
 Making A = List FunName → Place → A × Place
 
+-- what takes no place
 abbrev pub made : {A : Type 0} → A → Making A
 made a names place = (a, place)
 
+-- one part, and behind it what follows
 abbrev pub next : {A B : Type 0} → Making A → (A → Making B) → Making B
 next m k names place = k (m names place).0 names (m names place).1
 
@@ -54,6 +57,11 @@ at_node k names place = k place.node names (record { node = suc place.node; site
 abbrev pub at_sites : {A : Type 0} → ℕ → (ℕ → Making A) → Making A
 at_sites n k names place = k place.site names (record { node = place.node; site = place.site + n })
 
+-- behind so many nodes
+abbrev pub at_nodes : {A : Type 0} → ℕ → Making A → Making A
+at_nodes n m names place = m names (record { node = place.node + n; site = place.site })
+
+-- in reach of the functions of a letrec
 abbrev pub under : {A : Type 0} → List FunName → Making A → Making A
 under defined m names place = m (defined ++ names) place
 
@@ -102,6 +110,7 @@ pub data Shape : Type 0 where
   AList : List (Making Expression) → Shape
   Another : Shape
 
+-- an expression as a part of a whole
 pub record Part : Type 0 where
   pub shape : Shape
   pub make : Making Expression
@@ -111,9 +120,11 @@ pub record Part : Type 0 where
 abbrev pub part : Shape → Making Expression → Part
 part shape make = record { shape = shape; make = make; make_guard = make }
 
+-- a clause as a part, in front of further ones
 abbrev pub ClausePart : Type 0
 ClausePart = Making (Clauses → Clauses)
 
+-- a function of a letrec as a part
 pub record FunctionPart : Type 0 where
   pub name : FunName
   pub parameters : List ℕ
@@ -174,7 +185,6 @@ abbrev pub spawn_head : (node : ℕ) → Option ℕ → Option Head
 spawn_head node None = None
 spawn_head node (Some k) = Some (r.Spawn node k)
 
--- the list of the argument places of a name
 abbrev pub name_with : ℕ → ℕ → FunName
 name_with name arity = record { name = name; arity = arity }
 
@@ -220,6 +230,7 @@ module _ (names : Names) (current : ℕ) where
   spawn_call node (m ∷ f ∷ l ∷ []) = spawn_made node m.shape f.shape (spawned_with l.shape) (next (all_made (makings (m ∷ f ∷ l ∷ []))) λ es. made r.Refused)
   spawn_call node args = next (all_made (makings args)) λ es. made r.Refused
 
+  -- a built-in: the arguments from left to right
   abbrev pub operation_call : (node : ℕ) → Operation → List Part → Making Expression
   operation_call node (Plain b) args = next (all_made (makings args)) λ es. made (r.Call (r.BuiltIn b) es)
   operation_call node SetsElement args = at_sites 1 λ site. next (all_made (makings args)) λ es. made (r.Call (r.Setelement site) es)
@@ -236,20 +247,24 @@ module _ (names : Names) (current : ℕ) where
   named_call node m f None args = function_call m f args
   named_call node m f (Some operation) args = operation_call node operation args
 
+  -- the built-in that a call names, where it is one
   abbrev pub erlang_operation : (m f arity : ℕ) → Option Operation
   erlang_operation m f arity = if is_called m (codes "erlang") then operation_of (text_of names.atoms f) arity else None
 
+  -- a call whose module and name are atoms; each of the two is a node
   abbrev pub call_shaped : Shape → Shape → List Part → Making Expression → Making Expression
   call_shaped (AnAtom m) (AnAtom f) args otherwise =
       at_node λ node. at_node λ a. at_node λ b. named_call node m f (erlang_operation m f (length args)) args
   call_shaped _ _ args otherwise = otherwise
 
+  -- the one primop of the subset
   abbrev pub primop_made : ℕ → List Part → Making Expression
   primop_made name args =
       if is_called name (codes "match_fail") && (length args == 1)
       then (at_node λ node. next (all_made (makings args)) λ es. made (r.Call r.MatchFail es))
       else refused args
 
+  -- the literals 0 and 'infinity'
   abbrev pub timeout_of : Shape → Option Timeout
   timeout_of (AnInt n) = if int_eq n (pos 0) then Some AtOnce else None
   timeout_of (AnAtom a) = if is_called a (codes "infinity") then Some Never else None
@@ -262,9 +277,11 @@ module _ (names : Names) (current : ℕ) where
   abbrev pub is_guard_form : List ℕ → Shape → List ℕ → Shape → Bool
   is_guard_form vars body catch_vars catch_body = is_same_variable vars body && (are_two_or_three catch_vars && is_false catch_body)
 
+  -- read as its first part; its other parts keep their nodes
   abbrev pub guard_form : Part → Part → Part → Making Expression
   guard_form value body catch_body = at_node λ node. next value.make λ e. next body.make λ b. next catch_body.make λ c. made e
 
+  -- one form, with its parts in their places
   abbrev pub expr_step : Expr-F Part ClausePart FunctionPart → Part
   expr_step (e.Int n) = part (AnInt n) (at_node λ node. made (r.Int n))
   expr_step (e.Atom a) = part (AnAtom a) (at_node λ node. made (r.Atom a))
@@ -298,13 +315,11 @@ module _ (names : Names) (current : ℕ) where
   expr_step (e.Catch body) = part Another (refused (body ∷ []))
   expr_step (e.Fun params body) = part Another (refused (body ∷ []))
 
-  abbrev pub after_nodes : {A : Type 0} → ℕ → Making A → Making A
-  after_nodes n m locals place = m locals (record { node = place.node + n; site = place.site })
-
+  -- the patterns, the guard and the body
   abbrev pub clause_step : Clause-F Part ClausePart FunctionPart → ClausePart
   clause_step c =
       let ps = map pattern_of c.patterns in
-      after_nodes (nodes_of ps) (next c.guard.make_guard λ g. next c.body.make λ b. made (MoreClauses (patterns_of ps) g b))
+      at_nodes (nodes_of ps) (next c.guard.make_guard λ g. next c.body.make λ b. made (MoreClauses (patterns_of ps) g b))
 
   abbrev pub function_step : Function-F Part ClausePart FunctionPart → FunctionPart
   function_step f = record { name = f.name; parameters = f.params; make = f.body.make }

@@ -5,6 +5,7 @@ mod bif;
 mod class;
 mod end;
 mod info;
+pub mod laws;
 mod limits;
 mod step;
 mod tables;

@@ -67,29 +67,35 @@ pub variable_evaluates : (x : ℕ) (v : Value) (bindings : List Binding) (before
 variable_evaluates x v bindings before found = (
   [],
   sym (append-nil before),
-  record { means = λ program atoms names current pid locals place calls inputs built.
-      meaning-Var program atoms names current pid locals place calls (env_of bindings) x inputs ∙ ap (λ o. record { events = []; calls = calls; inputs = inputs; end = value_end o }) found },
+  record {
+    means = λ program atoms names current pid locals place calls inputs built.
+        meaning-Var program atoms names current pid locals place calls (env_of bindings) x inputs ∙ ap (λ o. record { events = []; calls = calls; inputs = inputs; end = value_end o }) found;
+  },
 )
 
 pub do_gives : (x y : Expr) (bindings : List Binding) (before mid now : List Value) (v : Value) (ending : Ending) → Evaluates x bindings before mid (Gives v) → Evaluates y bindings mid now ending → Evaluates (e.Do x y) bindings before now ending
 do_gives x y bindings before mid now v ending (vs, p, first) (us, q, second) = (
   vs ++ us,
   more_values before mid now vs us p q,
-  record { means = λ program atoms names current pid locals place calls inputs built.
-      let parts = do_parts x y built in
-      let rest = second.means program atoms names current pid locals (place_after names current locals (inside place) x) calls inputs parts.1 in
-      meaning-Do program atoms names current pid locals place calls (env_of bindings) x y inputs
-      ∙ ap (λ r. then_run r (with_one (λ t m jns. meaning program atoms names current pid locals (place_after names current locals (inside place) x) m (env_of bindings) y jns))) (first.means program atoms names current pid locals (inside place) calls inputs parts.0)
-      ∙ then_gives vs us v ending calls inputs (λ t m jns. meaning program atoms names current pid locals (place_after names current locals (inside place) x) m (env_of bindings) y jns) rest },
+  record {
+    means = λ program atoms names current pid locals place calls inputs built.
+        let parts = do_parts x y built in
+        let rest = second.means program atoms names current pid locals (place_after names current locals (inside place) x) calls inputs parts.1 in
+        meaning-Do program atoms names current pid locals place calls (env_of bindings) x y inputs
+        ∙ ap (λ r. then_run r (with_one (λ t m jns. meaning program atoms names current pid locals (place_after names current locals (inside place) x) m (env_of bindings) y jns))) (first.means program atoms names current pid locals (inside place) calls inputs parts.0)
+        ∙ then_gives vs us v ending calls inputs (λ t m jns. meaning program atoms names current pid locals (place_after names current locals (inside place) x) m (env_of bindings) y jns) rest;
+  },
 )
 
 pub do_raises : (x y : Expr) (bindings : List Binding) (before now : List Value) (r : Reason) → Evaluates x bindings before now (Raises r) → Evaluates (e.Do x y) bindings before now (Raises r)
 do_raises x y bindings before now r (vs, p, first) = (
   vs,
   p,
-  record { means = λ program atoms names current pid locals place calls inputs built.
-      meaning-Do program atoms names current pid locals place calls (env_of bindings) x y inputs
-      ∙ ap (λ r. then_run r (with_one (λ t m jns. meaning program atoms names current pid locals (place_after names current locals (inside place) x) m (env_of bindings) y jns))) (first.means program atoms names current pid locals (inside place) calls inputs (do_parts x y built).0) },
+  record {
+    means = λ program atoms names current pid locals place calls inputs built.
+        meaning-Do program atoms names current pid locals place calls (env_of bindings) x y inputs
+        ∙ ap (λ r. then_run r (with_one (λ t m jns. meaning program atoms names current pid locals (place_after names current locals (inside place) x) m (env_of bindings) y jns))) (first.means program atoms names current pid locals (inside place) calls inputs (do_parts x y built).0);
+  },
 )
 
 -- the body of a `let`, under its variable
@@ -105,17 +111,19 @@ let_gives_one : (var : ℕ) (x y : Expr) (bindings : List Binding) (before mid n
 let_gives_one var x y bindings before mid now v ending (vs, p, first) (us, q, second) = (
   vs ++ us,
   more_values before mid now vs us p q,
-  record { means = λ program atoms names current pid locals place calls inputs built.
-      let parts = let_parts (var ∷ []) x y built in
-      let binding : Binding = record { var = var; value = v } in
-      let this : parts.0 ≡ var = (let same : var ∷ [] ≡ parts.0 ∷ [] = parts.1 in cc) in
-      let bound = subst (λ (k : List ℕ). IsBuilt names.atoms k y) (ap (λ (k : ℕ). k ∷ variables_of bindings) this ∙ sym (variables_push bindings binding)) parts.3 in
-      let behind = place_after names current locals (inside place) x in
-      let rest = second.means program atoms names current pid locals behind calls inputs bound in
-      let env = env_push bindings binding in
-      meaning-Let program atoms names current pid locals place calls (env_of bindings) var x y inputs
-      ∙ ap (λ r. then_run r (with_one (λ t m jns. meaning program atoms names current pid locals behind m (Bound var t (env_of bindings)) y jns))) (first.means program atoms names current pid locals (inside place) calls inputs parts.2)
-      ∙ then_gives vs us v ending calls inputs (λ t m jns. meaning program atoms names current pid locals behind m (Bound var t (env_of bindings)) y jns) (ap (λ (k : Env). meaning program atoms names current pid locals behind calls k y inputs) (sym env) ∙ rest) },
+  record {
+    means = λ program atoms names current pid locals place calls inputs built.
+        let parts = let_parts (var ∷ []) x y built in
+        let binding : Binding = record { var = var; value = v } in
+        let this : parts.0 ≡ var = (let same : var ∷ [] ≡ parts.0 ∷ [] = parts.1 in cc) in
+        let bound = subst (λ (k : List ℕ). IsBuilt names.atoms k y) (ap (λ (k : ℕ). k ∷ variables_of bindings) this ∙ sym (variables_push bindings binding)) parts.3 in
+        let behind = place_after names current locals (inside place) x in
+        let rest = second.means program atoms names current pid locals behind calls inputs bound in
+        let env = env_push bindings binding in
+        meaning-Let program atoms names current pid locals place calls (env_of bindings) var x y inputs
+        ∙ ap (λ r. then_run r (with_one (λ t m jns. meaning program atoms names current pid locals behind m (Bound var t (env_of bindings)) y jns))) (first.means program atoms names current pid locals (inside place) calls inputs parts.2)
+        ∙ then_gives vs us v ending calls inputs (λ t m jns. meaning program atoms names current pid locals behind m (Bound var t (env_of bindings)) y jns) (ap (λ (k : Env). meaning program atoms names current pid locals behind calls k y inputs) (sym env) ∙ rest);
+  },
 )
 
 pub let_gives : (xs : List ℕ) (x y : Expr) (bindings : List Binding) (before mid now : List Value) (v : Value) (ending : Ending) → Evaluates x bindings before mid (Gives v) → EvaluatesUnder xs v y bindings mid now ending → Evaluates (e.Let xs x y) bindings before now ending
@@ -127,9 +135,11 @@ let_raises_one : (var : ℕ) (x y : Expr) (bindings : List Binding) (before now 
 let_raises_one var x y bindings before now r (vs, p, first) = (
   vs,
   p,
-  record { means = λ program atoms names current pid locals place calls inputs built.
-      meaning-Let program atoms names current pid locals place calls (env_of bindings) var x y inputs
-      ∙ ap (λ r. then_run r (with_one (λ t m jns. meaning program atoms names current pid locals (place_after names current locals (inside place) x) m (Bound var t (env_of bindings)) y jns))) (first.means program atoms names current pid locals (inside place) calls inputs (let_parts (var ∷ []) x y built).2) },
+  record {
+    means = λ program atoms names current pid locals place calls inputs built.
+        meaning-Let program atoms names current pid locals place calls (env_of bindings) var x y inputs
+        ∙ ap (λ r. then_run r (with_one (λ t m jns. meaning program atoms names current pid locals (place_after names current locals (inside place) x) m (Bound var t (env_of bindings)) y jns))) (first.means program atoms names current pid locals (inside place) calls inputs (let_parts (var ∷ []) x y built).2);
+  },
 )
 
 -- only a `let` of one variable is of the arithmetic forms
@@ -138,16 +148,20 @@ let_raises (var ∷ []) x y bindings before now r first = let_raises_one var x y
 let_raises [] x y bindings before now r (vs, p, first) = (
   vs,
   p,
-  record { means = λ program atoms names current pid locals place calls inputs built.
-      let parts = let_parts [] x y built in
-      absurd (let bad : [] ≡ parts.0 ∷ [] = parts.1 in cc) },
+  record {
+    means = λ program atoms names current pid locals place calls inputs built.
+        let parts = let_parts [] x y built in
+        absurd (let bad : [] ≡ parts.0 ∷ [] = parts.1 in cc);
+  },
 )
 let_raises (var ∷ w ∷ xs) x y bindings before now r (vs, p, first) = (
   vs,
   p,
-  record { means = λ program atoms names current pid locals place calls inputs built.
-      let parts = let_parts (var ∷ w ∷ xs) x y built in
-      absurd (let bad : var ∷ w ∷ xs ≡ parts.0 ∷ [] = parts.1 in cc) },
+  record {
+    means = λ program atoms names current pid locals place calls inputs built.
+        let parts = let_parts (var ∷ w ∷ xs) x y built in
+        absurd (let bad : var ∷ w ∷ xs ≡ parts.0 ∷ [] = parts.1 in cc);
+  },
 )
 
 -- ---- calls
@@ -180,21 +194,25 @@ pub display_gives : (x : Expr) (bindings : List Binding) (before mid : List Valu
 display_gives x bindings before mid v (vs, p, first) = λ m k. (
   vs ++ v ∷ [],
   ap (λ (u : List Value). u ++ v ∷ []) p ∙ append_assoc before vs (v ∷ []),
-  record { means = λ program atoms names current pid locals place calls inputs built.
-      let parts = one_argument names.atoms (variables_of bindings) m k x built in
-      meaning-display program atoms names current pid locals place calls (env_of bindings) m k x inputs (text_at names.atoms m the_erlang parts.0) (text_at names.atoms k the_display parts.1)
-      ∙ ap (λ r. then_run r (with_one (λ t l jns. record { events = Printed t ∷ []; calls = l; inputs = jns; end = outcome_of (Gives True) }))) (first.means program atoms names current pid locals (first_argument place) calls inputs parts.2)
-      ∙ then_gives vs (v ∷ []) v (Gives True) calls inputs (λ t l jns. record { events = Printed t ∷ []; calls = l; inputs = jns; end = outcome_of (Gives True) }) refl },
+  record {
+    means = λ program atoms names current pid locals place calls inputs built.
+        let parts = one_argument names.atoms (variables_of bindings) m k x built in
+        meaning-display program atoms names current pid locals place calls (env_of bindings) m k x inputs (text_at names.atoms m the_erlang parts.0) (text_at names.atoms k the_display parts.1)
+        ∙ ap (λ r. then_run r (with_one (λ t l jns. record { events = Printed t ∷ []; calls = l; inputs = jns; end = outcome_of (Gives True) }))) (first.means program atoms names current pid locals (first_argument place) calls inputs parts.2)
+        ∙ then_gives vs (v ∷ []) v (Gives True) calls inputs (λ t l jns. record { events = Printed t ∷ []; calls = l; inputs = jns; end = outcome_of (Gives True) }) refl;
+  },
 )
 
 pub display_raises : (x : Expr) (bindings : List Binding) (before now : List Value) (r : Reason) → Evaluates x bindings before now (Raises r) → EvaluatesCall (x ∷ []) bindings before now (Raises r)
 display_raises x bindings before now r (vs, p, first) = λ m k. (
   vs,
   p,
-  record { means = λ program atoms names current pid locals place calls inputs built.
-      let parts = one_argument names.atoms (variables_of bindings) m k x built in
-      meaning-display program atoms names current pid locals place calls (env_of bindings) m k x inputs (text_at names.atoms m the_erlang parts.0) (text_at names.atoms k the_display parts.1)
-      ∙ ap (λ r. then_run r (with_one (λ t l jns. record { events = Printed t ∷ []; calls = l; inputs = jns; end = outcome_of (Gives True) }))) (first.means program atoms names current pid locals (first_argument place) calls inputs parts.2) },
+  record {
+    means = λ program atoms names current pid locals place calls inputs built.
+        let parts = one_argument names.atoms (variables_of bindings) m k x built in
+        meaning-display program atoms names current pid locals place calls (env_of bindings) m k x inputs (text_at names.atoms m the_erlang parts.0) (text_at names.atoms k the_display parts.1)
+        ∙ ap (λ r. then_run r (with_one (λ t l jns. record { events = Printed t ∷ []; calls = l; inputs = jns; end = outcome_of (Gives True) }))) (first.means program atoms names current pid locals (first_argument place) calls inputs parts.2);
+  },
 )
 
 -- the sum of what both parts give
@@ -203,18 +221,20 @@ pub sum_gives : (x y : Expr) (bindings : List Binding) (before mid now : List Va
 sum_gives x y bindings before mid now v u ending (vs, p, first) (us, q, second) added = λ m k. (
   vs ++ us,
   more_values before mid now vs us p q,
-  record { means = λ program atoms names current pid locals place calls inputs built.
-      let parts = two_arguments names.atoms (variables_of bindings) m k x y built in
-      let behind = place_after names current locals (first_argument place) x in
-      let whole : Term → Term → ℕ → List (Input Term) → Coming = λ t u l kns. record { events = []; calls = l; inputs = kns; end = answer_end (answer atoms pid Add (t ∷ u ∷ [])) } in
-      let after_first : Term → ℕ → List (Input Term) → Coming = λ t m jns. then_run (meaning program atoms names current pid locals behind m (env_of bindings) y jns) (with_one (whole t)) in
-      let last : whole (term_of v) (term_of u) calls inputs ≡ came [] ending calls inputs = ap (λ o. record { events = []; calls = calls; inputs = inputs; end = o }) (sym (added atoms pid)) in
-      let right : after_first (term_of v) calls inputs ≡ came us ending calls inputs
-      = ap (λ r. then_run r (with_one (whole (term_of v)))) (second.means program atoms names current pid locals behind calls inputs parts.3)
-      ∙ then_gives us [] u ending calls inputs (whole (term_of v)) last ∙ ap (λ (k : List Value). came k ending calls inputs) (append-nil us) in
-      meaning-plus program atoms names current pid locals place calls (env_of bindings) m k x y inputs (text_at names.atoms m the_erlang parts.0) (text_at names.atoms k the_plus parts.1)
-      ∙ ap (λ r. then_run r (with_one after_first)) (first.means program atoms names current pid locals (first_argument place) calls inputs parts.2)
-      ∙ then_gives vs us v ending calls inputs after_first right },
+  record {
+    means = λ program atoms names current pid locals place calls inputs built.
+        let parts = two_arguments names.atoms (variables_of bindings) m k x y built in
+        let behind = place_after names current locals (first_argument place) x in
+        let whole : Term → Term → ℕ → List (Input Term) → Coming = λ t u l kns. record { events = []; calls = l; inputs = kns; end = answer_end (answer atoms pid Add (t ∷ u ∷ [])) } in
+        let after_first : Term → ℕ → List (Input Term) → Coming = λ t m jns. then_run (meaning program atoms names current pid locals behind m (env_of bindings) y jns) (with_one (whole t)) in
+        let last : whole (term_of v) (term_of u) calls inputs ≡ came [] ending calls inputs = ap (λ o. record { events = []; calls = calls; inputs = inputs; end = o }) (sym (added atoms pid)) in
+        let right : after_first (term_of v) calls inputs ≡ came us ending calls inputs
+        = ap (λ r. then_run r (with_one (whole (term_of v)))) (second.means program atoms names current pid locals behind calls inputs parts.3)
+        ∙ then_gives us [] u ending calls inputs (whole (term_of v)) last ∙ ap (λ (k : List Value). came k ending calls inputs) (append-nil us) in
+        meaning-plus program atoms names current pid locals place calls (env_of bindings) m k x y inputs (text_at names.atoms m the_erlang parts.0) (text_at names.atoms k the_plus parts.1)
+        ∙ ap (λ r. then_run r (with_one after_first)) (first.means program atoms names current pid locals (first_argument place) calls inputs parts.2)
+        ∙ then_gives vs us v ending calls inputs after_first right;
+  },
 )
 
 -- the right part raises
@@ -222,16 +242,18 @@ pub sum_right_raises : (x y : Expr) (bindings : List Binding) (before mid now : 
 sum_right_raises x y bindings before mid now v r (vs, p, first) (us, q, second) = λ m k. (
   vs ++ us,
   more_values before mid now vs us p q,
-  record { means = λ program atoms names current pid locals place calls inputs built.
-      let parts = two_arguments names.atoms (variables_of bindings) m k x y built in
-      let behind = place_after names current locals (first_argument place) x in
-      let whole : Term → Term → ℕ → List (Input Term) → Coming = λ t u l kns. record { events = []; calls = l; inputs = kns; end = answer_end (answer atoms pid Add (t ∷ u ∷ [])) } in
-      let after_first : Term → ℕ → List (Input Term) → Coming = λ t m jns. then_run (meaning program atoms names current pid locals behind m (env_of bindings) y jns) (with_one (whole t)) in
-      let right : after_first (term_of v) calls inputs ≡ came us (Raises r) calls inputs
-      = ap (λ r. then_run r (with_one (whole (term_of v)))) (second.means program atoms names current pid locals behind calls inputs parts.3) in
-      meaning-plus program atoms names current pid locals place calls (env_of bindings) m k x y inputs (text_at names.atoms m the_erlang parts.0) (text_at names.atoms k the_plus parts.1)
-      ∙ ap (λ r. then_run r (with_one after_first)) (first.means program atoms names current pid locals (first_argument place) calls inputs parts.2)
-      ∙ then_gives vs us v (Raises r) calls inputs after_first right },
+  record {
+    means = λ program atoms names current pid locals place calls inputs built.
+        let parts = two_arguments names.atoms (variables_of bindings) m k x y built in
+        let behind = place_after names current locals (first_argument place) x in
+        let whole : Term → Term → ℕ → List (Input Term) → Coming = λ t u l kns. record { events = []; calls = l; inputs = kns; end = answer_end (answer atoms pid Add (t ∷ u ∷ [])) } in
+        let after_first : Term → ℕ → List (Input Term) → Coming = λ t m jns. then_run (meaning program atoms names current pid locals behind m (env_of bindings) y jns) (with_one (whole t)) in
+        let right : after_first (term_of v) calls inputs ≡ came us (Raises r) calls inputs
+        = ap (λ r. then_run r (with_one (whole (term_of v)))) (second.means program atoms names current pid locals behind calls inputs parts.3) in
+        meaning-plus program atoms names current pid locals place calls (env_of bindings) m k x y inputs (text_at names.atoms m the_erlang parts.0) (text_at names.atoms k the_plus parts.1)
+        ∙ ap (λ r. then_run r (with_one after_first)) (first.means program atoms names current pid locals (first_argument place) calls inputs parts.2)
+        ∙ then_gives vs us v (Raises r) calls inputs after_first right;
+  },
 )
 
 -- the left part raises
@@ -239,13 +261,15 @@ pub sum_left_raises : (x y : Expr) (bindings : List Binding) (before now : List 
 sum_left_raises x y bindings before now r (vs, p, first) = λ m k. (
   vs,
   p,
-  record { means = λ program atoms names current pid locals place calls inputs built.
-      let parts = two_arguments names.atoms (variables_of bindings) m k x y built in
-      let behind = place_after names current locals (first_argument place) x in
-      let whole : Term → Term → ℕ → List (Input Term) → Coming = λ t u l kns. record { events = []; calls = l; inputs = kns; end = answer_end (answer atoms pid Add (t ∷ u ∷ [])) } in
-      let after_first : Term → ℕ → List (Input Term) → Coming = λ t m jns. then_run (meaning program atoms names current pid locals behind m (env_of bindings) y jns) (with_one (whole t)) in
-      meaning-plus program atoms names current pid locals place calls (env_of bindings) m k x y inputs (text_at names.atoms m the_erlang parts.0) (text_at names.atoms k the_plus parts.1)
-      ∙ ap (λ r. then_run r (with_one after_first)) (first.means program atoms names current pid locals (first_argument place) calls inputs parts.2) },
+  record {
+    means = λ program atoms names current pid locals place calls inputs built.
+        let parts = two_arguments names.atoms (variables_of bindings) m k x y built in
+        let behind = place_after names current locals (first_argument place) x in
+        let whole : Term → Term → ℕ → List (Input Term) → Coming = λ t u l kns. record { events = []; calls = l; inputs = kns; end = answer_end (answer atoms pid Add (t ∷ u ∷ [])) } in
+        let after_first : Term → ℕ → List (Input Term) → Coming = λ t m jns. then_run (meaning program atoms names current pid locals behind m (env_of bindings) y jns) (with_one (whole t)) in
+        meaning-plus program atoms names current pid locals place calls (env_of bindings) m k x y inputs (text_at names.atoms m the_erlang parts.0) (text_at names.atoms k the_plus parts.1)
+        ∙ ap (λ r. then_run r (with_one after_first)) (first.means program atoms names current pid locals (first_argument place) calls inputs parts.2);
+  },
 )
 
 -- a call is one of atoms, whose numbers its trees tell

@@ -55,14 +55,18 @@ module _ (name main : ℕ) (x : Expr) (s : Tables) where
   run_with : (values : List Value) (ending : Ending) → EvaluatesTo x [] values ending → IsBuilt s.atoms [] x → HasRun whole values ending
   run_with values (Gives v) to d =
       let is = comes values (Gives v) to d in
-      let ts = map term_of values in
-      (events_from 0 (length ts), subst (λ (k : List ℕ). IsRunOf whole (events_from 0 (length ts)) (end_of (Gives v) ∷ []) k) (output_is values (Gives v))
-          (prints_and_ends (program_of whole) own_atoms calls_limit NeverStopped 0 ts (term_of v) (ap (λ r. r.events) is ∙ displays_printed values) (ap (λ r. r.inputs) is) (ap (λ r. r.end) is)))
+      let ts = map term_of values in (
+        events_from 0 (length ts),
+        subst (λ (k : List ℕ). IsRunOf whole (events_from 0 (length ts)) (end_of (Gives v) ∷ []) k) (output_is values (Gives v))
+            (prints_and_ends (program_of whole) own_atoms calls_limit NeverStopped 0 ts (term_of v) (ap (λ r. r.events) is ∙ displays_printed values) (ap (λ r. r.inputs) is) (ap (λ r. r.end) is)),
+      )
   run_with values (Raises r) to d =
       let is = comes values (Raises r) to d in
-      let ts = map term_of values in
-      (events_from 0 (length ts), subst (λ (k : List ℕ). IsRunOf whole (events_from 0 (length ts)) (end_of (Raises r) ∷ []) k) (output_is values (Raises r))
-          (prints_and_raises (program_of whole) own_atoms calls_limit NeverStopped 0 ts Error (reason_of r) (ap (λ r. r.events) is ∙ displays_printed values) (ap (λ r. r.inputs) is) (ap (λ r. r.end) is)))
+      let ts = map term_of values in (
+        events_from 0 (length ts),
+        subst (λ (k : List ℕ). IsRunOf whole (events_from 0 (length ts)) (end_of (Raises r) ∷ []) k) (output_is values (Raises r))
+            (prints_and_raises (program_of whole) own_atoms calls_limit NeverStopped 0 ts Error (reason_of r) (ap (λ r. r.events) is ∙ displays_printed values) (ap (λ r. r.inputs) is) (ap (λ r. r.end) is)),
+      )
 
   pub body_runs : (values : List Value) (ending : Ending) → Evaluates x [] [] values ending → IsBuilt s.atoms [] x → HasRun whole values ending
   body_runs values ending (vs, p, to) d = subst (λ (k : List Value). HasRun whole k ending) (sym p) (run_with vs ending to d)

@@ -1,16 +1,20 @@
 -- The run of a module of the arithmetic forms, as the copying machine has it.
-use Rattle.std.specs.Prelude.{ℕ, ◌^◌, List, [], ◌∷◌, map}
+use Rattle.std.specs.Prelude.{◌≡◌, ℕ, ◌<◌, ◌^◌, List, [], ◌∷◌, Option, None, Contains}
 use Rattle.hy_terms.specs.Term.{Term}
 use Rattle.hy_core.specs.BuiltIn.{own_atoms}
 use Rattle.hy_core.specs.FullRun.{IsFullRun}
 use Rattle.hy_core.specs.Machine.{Process}
+use Rattle.hy_core.specs.Reading.{IsModuleText}
 use Rattle.hy_core.specs.Resolve.{Names, function_trees}
 use Rattle.hy_core.specs.Resolved.{FunctionTree}
 use Rattle.hy_core.specs.declared.end.Cause.{Cause}
 use Rattle.hy_core.specs.declared.end.End.{End}
+use Rattle.hy_core.specs.declared.end.End.TheVariants.{Ended, Raised, Waits, Stopped}
 use Rattle.hy_core.specs.declared.step.Step.{Step}
 use Rattle.hy_core.specs.declared.tree.Module.{Module}
 use Rattle.hybrid_run.specs.Arithmetic.{end_of, output_of}
+use Rattle.hybrid_run.specs.FileWords.{file_words}
+use Rattle.hybrid_run.specs.Outside.{Appends, AppendsPrefix}
 use Rattle.hybrid_run.specs.declared.value.Value.{Value}
 use Rattle.hybrid_run.specs.declared.value.Ending.{Ending}
 
@@ -37,3 +41,47 @@ IsRunOf z steps ends output = IsFullRun (program_of z) own_atoms calls_limit Nev
 -- the first process displays these values and ends so
 abbrev pub HasRun : Module → List Value → Ending → Type 0
 HasRun z values ending = (steps : List Step) × IsRunOf z steps (end_of ending ∷ []) (output_of values ending)
+
+-- the status of the program for the end of its first process
+abbrev pub status_of_end : End → ℕ
+status_of_end (Ended text) = 0
+status_of_end (Raised class text) = 1
+status_of_end Waits = 4
+status_of_end (Stopped cause) = 5
+
+-- the bytes appended are the output of a full run of the module, whose end gives the status
+pub record Ran (z : Module) (before now : Option (List ℕ)) (answer : ℕ) : Type 0 where
+  pub steps : List Step
+  pub end : End
+  pub output : List ℕ
+  pub full : IsRunOf z steps (end ∷ []) output
+  pub written : Appends before now output
+  pub status : answer ≡ status_of_end end
+
+-- the bytes appended are a first part of the output of a full run of the module
+pub record Cut (z : Module) (before now : Option (List ℕ)) : Type 0 where
+  pub steps : List Step
+  pub end : End
+  pub output : List ℕ
+  pub full : IsRunOf z steps (end ∷ []) output
+  pub written : AppendsPrefix before now output
+
+-- the text is no module of the arithmetic forms
+abbrev pub HasNoModule : List ℕ → Type 0
+HasNoModule text = (z : Module) → IsModuleText text z → ⊥
+
+-- the text of the one file, where the sources tell it
+abbrev pub text_of_file : (List ℕ → Option (List ℕ)) → List (List ℕ) → Option (List ℕ)
+text_of_file told (name ∷ []) = told name
+text_of_file told _ = None
+
+abbrev pub told_text : (List ℕ → Option (List ℕ)) → List (List ℕ) → Option (List ℕ)
+told_text told words = text_of_file told (file_words words)
+
+-- the first process ended, or raised
+abbrev pub IsRunStatus : ℕ → Type 0
+IsRunStatus status = status < 2
+
+-- usage, not built and a read fault, with which nothing is written
+abbrev pub IsSilentStatus : ℕ → Type 0
+IsSilentStatus status = Contains (2 ∷ 3 ∷ 6 ∷ []) status

@@ -33,13 +33,13 @@ pub struct Outcome {
 }
 
 /// Runs the one function of a module.
-pub fn evaluate_module(alloc: Global, module: &Module) -> Result<Outcome, Memory>
-    requires { IsBuiltModule module.now }
-    ensures { IfOk result (λ outcome. HasRun module.now outcome.printed.items outcome.ending) }
+pub fn evaluate_module(alloc: Global, tree: &Module) -> Result<Outcome, Memory>
+    requires { IsBuiltModule tree.now }
+    ensures { IfOk result (λ outcome. HasRun tree.now outcome.printed.items outcome.ending) }
 {
     let mut env = Vec::new(alloc);
     let mut printed = Vec::new(alloc);
-    let [main] = module.functions.as_slice() else {
+    let [main] = tree.functions.as_slice() else {
         unreachable!()
     };
     let ending = evaluate(&main.body, &mut env, &mut printed)?;
@@ -62,7 +62,13 @@ pub fn evaluate(
         Expr::Int(n) => Ok(Ending::Gives(Value::Int(*n))),
         Expr::Var(var) => Ok(Ending::Gives(value_of(env.as_slice(), *var))),
         Expr::Let { vars, value, body } => match evaluate(value.get(), env, printed)? {
-            Ending::Gives(value) => evaluate_under(vars.as_slice(), value, body.get(), env, printed),
+            Ending::Gives(value) => evaluate_under(
+                vars.as_slice(),
+                value,
+                body.get(),
+                env,
+                printed,
+            ),
             Ending::Raises(reason) => Ok(Ending::Raises(reason)),
         },
         Expr::Do { first, second } => match evaluate(first.get(), env, printed)? {

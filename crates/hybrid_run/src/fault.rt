@@ -1,5 +1,5 @@
 ghost use Rattle.std.specs.Prelude.{◌≡◌, ◌++◌, length, IfOk, OnOk};
-ghost use Rattle.hybrid_run.specs.Faults.{text_of_fault, read_fault_text, IsOfFiles};
+ghost use Rattle.hybrid_run.specs.Faults.{text_of_fault, read_fault_text, status_of_fault, IsOfFiles};
 
 use hy_terms::{Memory, Words};
 use std::alloc::Global;
@@ -16,6 +16,19 @@ pub enum TopFault {
     /// Standard output failed.
     Write,
     Memory,
+}
+
+/// The status of the program for a fault.
+pub fn status_of(fault: &TopFault) -> u8
+    ensures { result ≡ status_of_fault fault.now }
+{
+    match fault {
+        TopFault::Usage => 2,
+        TopFault::NotBuilt => 3,
+        TopFault::Read { file: _ } => 6,
+        TopFault::Write => 7,
+        TopFault::Memory => 8,
+    }
 }
 
 impl From<Memory> for TopFault {

@@ -5,8 +5,13 @@ mod evaluate;
 mod fault;
 mod output;
 pub mod outside;
+mod run;
+#[cfg(test)]
+mod tests;
+mod top;
 mod value;
 mod words;
 
 pub use fault::{TopFault, fault_text};
+pub use top::{Finish, hybrid};
 pub use words::files;

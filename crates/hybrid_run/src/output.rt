@@ -1,4 +1,4 @@
-ghost use Rattle.std.specs.Prelude.{◌≡◌, ◌≤◌, IfOk, IfErr, OnOk, IsErrOf};
+ghost use Rattle.std.specs.Prelude.{◌≡◌, ◌<◌, ◌≤◌, IfOk, IfErr, OnOk, IsErrOf};
 ghost use Rattle.hybrid_run.specs.Arithmetic.{printed_lines, output_of, status_of};
 ghost use Rattle.hybrid_run.specs.Outside.{Appends, AppendsPrefix, Rises};
 ghost use Rattle.hybrid_run.specs.Faults.{IsOfOutput};
@@ -16,6 +16,7 @@ pub fn write_output<K: Sink>(
     sink: &mut K,
 ) -> Result<u8, TopFault>
     ensures status { IfOk result (λ status. status ≡ status_of ending) }
+    ensures small { IfOk result (λ status. status < 2) }
     ensures ok { OnOk result (Appends (K.written sink.old) (K.written sink.new) (output_of printed.now ending)) }
     ensures prefix { IsErrOf result TopFault.Write → AppendsPrefix (K.written sink.old) (K.written sink.new) (output_of printed.now ending) }
     ensures rises { IsErrOf result TopFault.Write → Rises (K.faults sink.old) (K.faults sink.new) }
@@ -47,7 +48,8 @@ fn write_lines<K: Sink>(alloc: Global, printed: &[Value], sink: &mut K) -> Resul
 }
 
 fn status(ending: Ending) -> u8
-    ensures { result ≡ status_of ending }
+    ensures status { result ≡ status_of ending }
+    ensures small { result < 2 }
 {
     match ending {
         Ending::Gives(_) => 0,

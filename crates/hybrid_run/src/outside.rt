@@ -5,7 +5,6 @@ pub mod gate;
 mod listed;
 pub mod memory_sink;
 pub mod memory_sources;
-
 pub mod sink;
 pub mod sources;
 pub mod stdout;

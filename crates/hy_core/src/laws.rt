@@ -1,0 +1,8 @@
+//! Laws of what programs mean. Each function does nothing: its clause is the law.
+
+/// What the built-ins answer.
+pub mod built_ins;
+/// The laws of evaluation, form by form, by the Core Erlang 1.0.3 report.
+pub mod evaluation;
+/// Small programs, and what they do.
+pub mod runs;

@@ -1,0 +1,232 @@
+//! The rows of the program over sources and a sink in memory.
+
+use crate::outside::gate::OpenGate;
+use crate::outside::memory_sink::MemorySink;
+use crate::outside::memory_sources::MemorySources;
+use crate::{Finish, TopFault, fault_text, files, hybrid};
+use hy_terms::Words;
+use std::alloc::AllocGlobal;
+use std::test::Fail;
+use std::thread::Threads;
+
+const ROOM: u64 = 1 << 12;
+
+const HEAD: &[u8] = b"module 'm' ['main'/0] attributes [] 'main'/0 = fun () -> ";
+
+/// The text of a module whose function is this expression.
+fn module_of<R: AllocGlobal>(rt: &R, body: &[u8]) -> Result<Vec<u8>, Fail> {
+    let mut text = Vec::from_slice(rt.alloc(), HEAD)?;
+    text.extend_from_slice(body)?;
+    text.extend_from_slice(b" end\n")?;
+    Ok(text)
+}
+
+/// Runs the file of this text, with a sink that fails at these calls.
+fn run_file<R: Threads + AllocGlobal>(
+    rt: &R,
+    text: &[u8],
+    room: u64,
+    fails: Vec<u64>,
+) -> Result<(Finish, MemorySink), Fail> {
+    let mut words = Words::new(rt.alloc());
+    words.push("m.core")?;
+    let mut sources = MemorySources::new(rt.alloc(), Vec::new(rt.alloc()));
+    sources.add("m.core", text)?;
+    let mut sink = MemorySink::new(rt.alloc(), room, fails)?;
+    let finish = hybrid(rt, rt.alloc(), &words, &mut sources, &mut sink, &OpenGate);
+    Ok((finish, sink))
+}
+
+fn ended(status: u8) -> Finish {
+    Finish {
+        status,
+        refused: None,
+    }
+}
+
+fn refused(status: u8, fault: TopFault) -> Finish {
+    Finish {
+        status,
+        refused: Some(fault),
+    }
+}
+
+#[test]
+fn runs_modules(rt: HostRuntime) -> Result<(), Fail> {
+    let rows: [(&[u8], &[u8], u8); 5] = [
+        (
+            b"call 'erlang':'display'(call 'erlang':'+'(2,3))",
+            b"5\n0 ended 'true'\n",
+            0,
+        ),
+        (b"let <X> = 2 in call 'erlang':'+'(X,X)", b"0 ended 4\n", 0),
+        (
+            b"call 'erlang':'+'(call 'erlang':'display'(1),1)",
+            b"1\n0 raised error 'badarith'\n",
+            1,
+        ),
+        (
+            b"call 'erlang':'+'(576460752303423487,1)",
+            b"0 raised error 'system_limit'\n",
+            1,
+        ),
+        (
+            b"do call 'erlang':'display'(-1) do call 'erlang':'display'(-2) -576460752303423488",
+            b"-1\n-2\n0 ended -576460752303423488\n",
+            0,
+        ),
+    ];
+    for row in rows.as_slice() {
+        let text = module_of(&rt, row.0)?;
+        let told = run_file(&rt, text.as_slice(), ROOM, Vec::new(rt.alloc()))?;
+        assert_eq!(rt; told.1.bytes(), row.1);
+        assert_eq!(rt; told.0, ended(row.2));
+    }
+    Ok(())
+}
+
+#[test]
+fn refuses_what_is_no_module(rt: HostRuntime) -> Result<(), Fail> {
+    let unbound = module_of(&rt, b"X")?;
+    let number = module_of(&rt, b"576460752303423488")?;
+    let texts: [&[u8]; 3] = [b"", unbound.as_slice(), number.as_slice()];
+    for text in texts.as_slice() {
+        let told = run_file(&rt, text, ROOM, Vec::new(rt.alloc()))?;
+        assert_eq!(rt; told.0, refused(3, TopFault::NotBuilt));
+        assert_eq!(rt; told.1.bytes(), b"".as_slice());
+    }
+    Ok(())
+}
+
+/// Runs these words, with sources that fail at their first call or don't know the name.
+fn run_words<R: Threads + AllocGlobal>(
+    rt: &R,
+    words: &[&str],
+    fails: Vec<u64>,
+) -> Result<(Finish, MemorySink), Fail> {
+    let mut list = Words::new(rt.alloc());
+    for word in words {
+        list.push(word)?;
+    }
+    let text = module_of(rt, b"7")?;
+    let mut sources = MemorySources::new(rt.alloc(), fails);
+    sources.add("m.core", text.as_slice())?;
+    let mut sink = MemorySink::new(rt.alloc(), ROOM, Vec::new(rt.alloc()))?;
+    let finish = hybrid(rt, rt.alloc(), &list, &mut sources, &mut sink, &OpenGate);
+    Ok((finish, sink))
+}
+
+#[test]
+fn takes_one_file_word(rt: HostRuntime) -> Result<(), Fail> {
+    let usage: [&[&str]; 4] = [&[], &["m.core", "m.core"], &["-x"], &["--", "m.core"]];
+    for words in usage.as_slice() {
+        let told = run_words(&rt, words, Vec::new(rt.alloc()))?;
+        assert_eq!(rt; told.0, refused(2, TopFault::Usage));
+        assert_eq!(rt; told.1.bytes(), b"".as_slice());
+    }
+    let told = run_words(&rt, &["m.core"], Vec::new(rt.alloc()))?;
+    assert_eq!(rt; told.0, ended(0));
+    Ok(())
+}
+
+#[test]
+fn names_the_file_that_fails(rt: HostRuntime) -> Result<(), Fail> {
+    let failing = run_words(&rt, &["m.core"], Vec::from_slice(rt.alloc(), &[1])?)?;
+    assert_eq!(rt; failing.0, refused(6, TopFault::Read { file: 0 }));
+    assert_eq!(rt; failing.1.bytes(), b"".as_slice());
+    let unknown = run_words(&rt, &["other.core"], Vec::new(rt.alloc()))?;
+    assert_eq!(rt; unknown.0, refused(6, TopFault::Read { file: 0 }));
+    assert_eq!(rt; unknown.1.bytes(), b"".as_slice());
+    Ok(())
+}
+
+#[test]
+fn keeps_what_was_written(rt: HostRuntime) -> Result<(), Fail> {
+    let text = module_of(
+        &rt,
+        b"call 'erlang':'+'(call 'erlang':'display'(10),call 'erlang':'display'(11))",
+    )?;
+    let first = run_file(
+        &rt,
+        text.as_slice(),
+        ROOM,
+        Vec::from_slice(rt.alloc(), &[1])?,
+    )?;
+    assert_eq!(rt; first.0, refused(7, TopFault::Write));
+    assert_eq!(rt; first.1.bytes(), b"".as_slice());
+    let second = run_file(
+        &rt,
+        text.as_slice(),
+        ROOM,
+        Vec::from_slice(rt.alloc(), &[2])?,
+    )?;
+    assert_eq!(rt; second.0, refused(7, TopFault::Write));
+    assert_eq!(rt; second.1.bytes(), b"10\n".as_slice());
+    let narrow = run_file(&rt, text.as_slice(), 5, Vec::new(rt.alloc()))?;
+    assert_eq!(rt; narrow.0, refused(7, TopFault::Write));
+    assert_eq!(rt; narrow.1.bytes(), b"10\n".as_slice());
+    Ok(())
+}
+
+/// As many additions of 1, each within the one before.
+fn nested<R: AllocGlobal>(rt: &R, depth: usize) -> Result<Vec<u8>, Fail> {
+    let mut body = Vec::new(rt.alloc());
+    for _ in 0..depth {
+        body.extend_from_slice(b"call 'erlang':'+'(1,")?;
+    }
+    body.push(b'0')?;
+    for _ in 0..depth {
+        body.push(b')')?;
+    }
+    module_of(rt, body.as_slice())
+}
+
+#[test]
+fn nests_up_to_400_levels(rt: HostRuntime) -> Result<(), Fail> {
+    let most = nested(&rt, 399)?;
+    let told = run_file(&rt, most.as_slice(), ROOM, Vec::new(rt.alloc()))?;
+    assert_eq!(rt; told.1.bytes(), b"0 ended 399\n".as_slice());
+    let deeper = nested(&rt, 400)?;
+    let told = run_file(&rt, deeper.as_slice(), ROOM, Vec::new(rt.alloc()))?;
+    assert_eq!(rt; told.0, refused(3, TopFault::NotBuilt));
+    Ok(())
+}
+
+/// A module of so many bytes, of which all but few are spaces.
+fn long_text<R: AllocGlobal>(rt: &R, len: usize) -> Result<Vec<u8>, Fail> {
+    let mut text = module_of(rt, b"7")?;
+    for _ in text.len()..len {
+        text.push(b' ')?;
+    }
+    Ok(text)
+}
+
+#[test]
+fn reads_a_text_of_the_most_bytes(rt: HostRuntime) -> Result<(), Fail> {
+    let most = long_text(&rt, 1 << 20)?;
+    let told = run_file(&rt, most.as_slice(), ROOM, Vec::new(rt.alloc()))?;
+    assert_eq!(rt; told.0, ended(0));
+    let longer = long_text(&rt, (1 << 20) + 1)?;
+    let told = run_file(&rt, longer.as_slice(), ROOM, Vec::new(rt.alloc()))?;
+    assert_eq!(rt; told.0, refused(3, TopFault::NotBuilt));
+    Ok(())
+}
+
+#[test]
+fn says_why(rt: HostRuntime) -> Result<(), Fail> {
+    let mut words = Words::new(rt.alloc());
+    words.push("m.core")?;
+    let files = files(rt.alloc(), &words)?;
+    assert_eq!(rt; files.len(), 1);
+    let usage = fault_text(rt.alloc(), &TopFault::Usage, &files)?;
+    assert_eq!(rt; usage.as_slice(), b"hyb: usage\n".as_slice());
+    let read = fault_text(rt.alloc(), &TopFault::Read { file: 0 }, &files)?;
+    assert_eq!(rt; read.as_slice(), b"hyb: cannot read m.core\n".as_slice());
+    let not_built = fault_text(rt.alloc(), &TopFault::NotBuilt, &files)?;
+    assert_eq!(rt; not_built.as_slice(), b"hyb: not built\n".as_slice());
+    let write = fault_text(rt.alloc(), &TopFault::Write, &files)?;
+    assert_eq!(rt; write.as_slice(), b"hyb: write failed\n".as_slice());
+    let memory = fault_text(rt.alloc(), &TopFault::Memory, &files)?;
+    assert_eq!(rt; memory.as_slice(), b"hyb: out of memory\n".as_slice());
+    Ok(())
+}
