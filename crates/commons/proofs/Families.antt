@@ -1,5 +1,5 @@
 -- A commons at whose end there are the first pass and one child.
-use Rattle.std.proofs.Common.{◌≡◌, ◌≢◌, ℕ, zero, suc, ◌<◌, ◌≤◌, List, [], ◌∷◌, length, map, get_or, sym, refl, ap, ◌∙◌, subst, arith}
+use Rattle.std.proofs.Common.{◌≡◌, ℕ, zero, suc, ◌<◌, List, [], ◌∷◌, length, map, get_or, sym, refl, ap, ◌∙◌, subst, arith}
 use Rattle.std.specs.Prelude.{slice_index, Option, Some, None, IfSome, IfNone, ◌+◌}
 use Rattle.std.specs.List.{All, AllPairs}
 use mathlib.Core.Option.{some-injective, some-ne-none}
@@ -7,7 +7,10 @@ use Rattle.hy_words.specs.Lists.{Has}
 use Rattle.commons.specs.declared.view.View.{View}
 use Rattle.commons.specs.declared.plain.PlainCommons.{PlainCommons}
 use Rattle.commons.specs.declared.plain.PlainPass.{PlainPass}
-use Rattle.commons.specs.Changes.{Learns, LooksInVain}
+use Rattle.hy_words.specs.Words.{payload_of, area_word_of}
+use Rattle.commons.specs.Log.{header_at, HasPrintWords}
+use Rattle.commons.specs.Changes.{Learns, LooksInVain, child_at}
+use Rattle.commons.proofs.Grows.{area_word_place}
 use Rattle.commons.specs.Rule.{At}
 use Rattle.commons.specs.Closing.{HasChildren}
 use Rattle.commons.specs.Plain.{IsPassIn, IsApartIn, view_in}
@@ -37,8 +40,10 @@ family v w q root born pid none = record { first = (0, v, refl, root); children 
     only : (x : ℕ) → Has (q ∷ []) x → x ≡ q
     only x (zero, b, e) = sym e
     only x (suc k, b, e) = absurd (omega arith)
+
     no_one : (x : ℕ) → Has [] x → ⊥
     no_one x h = let b = h.1 in omega arith
+
     child : (j : ℕ) (u : View) (x : ℕ) → At (v ∷ w ∷ []) j u → Has u.born x → (i : ℕ) × (y : View) × At (v ∷ w ∷ []) i y × (y.pid ≡ x)
     child zero u x e h = (1, w, refl, pid ∙ sym (only x (subst (λ (xs : List ℕ). Has xs x) (ap (λ (y : View). y.born) (sym (some-injective v u e)) ∙ born) h)))
     child (suc zero) u x e h = absurd (no_one x (subst (λ (xs : List ℕ). Has xs x) (ap (λ (y : View). y.born) (sym (some-injective w u e)) ∙ none) h))
@@ -51,3 +56,9 @@ one_child c p q ps pid e root born named none = subst (λ (rs : List PlainPass).
 pub look_keeps : (o : Option ℕ) (v w : View) → IfSome o (λ place. (length w.known ≡ place + 1) × Learns v w.known w) → IfNone o (LooksInVain v w) → (w.pid ≡ v.pid) × (w.born ≡ v.born)
 look_keeps None v w some none = (ap (λ (u : View). u.pid) none.0.0, ap (λ (u : View). u.born) none.0.0)
 look_keeps (Some place) v w some none = (ap (λ (u : View). u.pid) some.1.0, ap (λ (u : View). u.born) some.1.0)
+
+-- a print entry names no child
+pub print_names_none : (seen : List ℕ) (place at entry actor text : ℕ) → HasPrintWords seen at actor text → entry ≡ area_word_of at → child_at (header_at seen entry) place ≡ None
+print_names_none seen place at entry actor text words e =
+    let header : header_at seen entry ≡ 43 = ap (slice_index seen) (ap payload_of e ∙ area_word_place at) ∙ words.0 in
+    ap (λ (h : ℕ). child_at h place) header

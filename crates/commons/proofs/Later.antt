@@ -1,9 +1,9 @@
 -- A pass that knows more: what it knew, it knows; what it might put, it may put; and fewer areas fit it.
-use Rattle.std.proofs.Common.{◌≡◌, ◌≢◌, ◌⊎◌, ℕ, ◌+◌, ◌<◌, ◌≤◌, List, [], ◌++◌, length, sym, refl, ap, ◌∙◌, inl, inr, ⊎_elim, subst, arith, length-append, append-nil, append_assoc}
+use Rattle.std.proofs.Common.{◌≡◌, ◌≢◌, ◌⊎◌, ℕ, ◌<◌, List, [], ◌++◌, length, sym, ap, ◌∙◌, inl, inr, ⊎_elim, arith, length-append, append-nil, append_assoc}
 use Rattle.std.specs.Prelude.{slice_index}
 use Rattle.std.proofs.lemmas.List.{get_or_append_left}
 use Rattle.hy_words.specs.Lists.{Grown, Has, StartsWith}
-use Rattle.hy_words.specs.Words.{tag_of, payload_of, area_word_of, IsHeader, IsScalar, following}
+use Rattle.hy_words.specs.Words.{tag_of, area_word_of, IsHeader, IsScalar}
 use Rattle.commons.specs.declared.view.View.{View}
 use Rattle.commons.specs.Area.{IsWhole}
 use Rattle.commons.specs.Views.{KnowsCell, Fits, KnowsPlace, MayPut}

@@ -1,11 +1,10 @@
 -- What puts in a row make: entries that may be appended.
-use Rattle.std.proofs.Common.{◌≡◌, ◌≢◌, ◌⊎◌, ℕ, zero, suc, ◌+◌, ◌*◌, ◌/◌, ◌%◌, ◌^◌, ◌<◌, ◌≤◌, List, length, sym, refl, ap, ◌∙◌, inl, inr, ⊎_elim, subst, arith, lit≤, lit<}
+use Rattle.std.proofs.Common.{◌≡◌, ◌≢◌, ℕ, zero, suc, ◌+◌, ◌^◌, ◌<◌, List, sym, ap, ◌∙◌, inl, subst, arith}
 use Rattle.std.specs.Prelude.{slice_index}
-use Rattle.hy_words.specs.Lists.{Grown}
-use Rattle.hy_words.specs.Words.{word_of, tag_of, payload_of, size_of, site_of, area_word_of, IsHeader, IsScalar, IsValue, IsPidWord, IsCountWord, following}
+use Rattle.hy_words.specs.Words.{word_of, tag_of, payload_of, area_word_of, IsHeader, IsScalar, IsValue, IsPidWord, IsCountWord, following}
 use Rattle.commons.specs.declared.view.View.{View}
 use Rattle.commons.specs.Area.{IsWhole, IsEntryCell, HasShape}
-use Rattle.commons.specs.Log.{header_at, actor_of, text_of, prints_at}
+use Rattle.commons.specs.Log.{header_at, prints_at}
 use Rattle.commons.specs.Views.{Fits, MayPut}
 use Rattle.commons.specs.Changes.{Puts, MayAppend}
 use Rattle.commons.proofs.Cells.{header_not_zero, value_not_zero, following_entry}

@@ -140,3 +140,22 @@ fn two_processes_share_the_commons(rt: HostRuntime) -> Result<(), Fail> {
     }
     Ok(())
 }
+
+// An entry is learnt by an append that lost its place, and by being told.
+#[test]
+fn entries_are_learnt(rt: HostRuntime) -> Result<(), Fail> {
+    let (mut commons, mut first) = PlainCommons::new(rt.alloc(), 1024, 4)?;
+    commons.claim(&mut first, 256)?;
+    let place = fork(&mut commons, &mut first, 0, 7)?;
+    let mut child = commons.birth(&mut first)?;
+    commons.claim(&mut child, 256)?;
+    let printed = put_print(&mut commons, &mut child, place + 1, 0);
+    assert_eq!(rt; commons.append(&mut child, printed)?, 1);
+    assert_eq!(rt; commons.known(&first), 1);
+    let sent = put_send(&mut commons, &mut first, 0, 1, nil_word());
+    assert_eq!(rt; commons.append(&mut first, sent)?, 2);
+    assert_eq!(rt; commons.known(&first), 3);
+    commons.tell(&mut first, &mut child)?;
+    assert_eq!(rt; commons.known(&child), 3);
+    Ok(())
+}

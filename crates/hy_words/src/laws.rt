@@ -19,5 +19,4 @@ pub fn area_keeps_terms()
 /// No shared node of what a word stands for has a private child.
 pub fn words_stand_for_labelled()
     ensures { WordsStandForLabelled }
-{
-}
+{}

@@ -1,4 +1,4 @@
-use Rattle.std.proofs.Common.{◌≡◌, ◌∙◌, ℕ, sym, subst, ap, inl}
+use Rattle.std.proofs.Common.{◌∙◌, ℕ, sym, subst, ap, inl}
 use Rattle.hy_words.specs.Words.{area_word_of}
 use Rattle.commons.specs.Views.{MayPut}
 use Rattle.commons.specs.Changes.{MayAppend}

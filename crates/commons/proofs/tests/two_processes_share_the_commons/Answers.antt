@@ -1,4 +1,4 @@
-use Rattle.std.proofs.Common.{◌≡◌, ◌+◌, ◌∙◌, ◌++◌, ◌∷◌, [], List, ℕ, ap, sym}
+use Rattle.std.proofs.Common.{◌+◌, ◌∙◌, ◌++◌, ◌∷◌, [], List, ℕ, ap, sym}
 use Rattle.commons.specs.declared.view.View.{View}
 use Rattle.commons.specs.declared.plain.PlainPass.{PlainPass}
 use Rattle.commons.proofs.Families.{both_passes, both_apart, one_child, look_keeps}
