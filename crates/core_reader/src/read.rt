@@ -202,7 +202,7 @@ mod tests {
             text.extend_from_slice(b"X ")?;
         }
         text.extend_from_slice(b"end")?;
-        while text.len() < size {
+        for _ in text.len()..size {
             text.push(b' ')?;
         }
         Ok(text)
