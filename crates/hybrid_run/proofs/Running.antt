@@ -8,7 +8,7 @@ use Rattle.hy_core.specs.Built.{IsBuilt, IsBuiltModule, built}
 use Rattle.hy_core.specs.BuiltIn.{own_atoms}
 use Rattle.hy_core.specs.Event.{Event, Printed}
 use Rattle.hy_core.specs.Evaluation.{Evaluated}
-use Rattle.hy_core.specs.FullRun.{runs_of, IsFullRun}
+use Rattle.hy_core.specs.FullRun.{NeverStopped, runs_of}
 use Rattle.hy_core.specs.Grammar.{main_module}
 use Rattle.hy_core.specs.Output.{outcome_line}
 use Rattle.hy_core.specs.declared.class.Class.TheVariants.{Error}
@@ -22,7 +22,7 @@ use Rattle.hy_core.specs.declared.end.End.{End}
 use Rattle.hy_core.proofs.AloneLemmas.{prints_and_ends, prints_and_raises}
 use Rattle.hy_core.proofs.MainLemmas.{main_does}
 use Rattle.hybrid_run.specs.Arithmetic.{term_of, reason_of, outcome_of, displays, value_text, end_of, output_of, printed_lines, EvaluatesTo, Evaluates}
-use Rattle.hybrid_run.specs.Headline.{names_of, program_of, calls_limit, NeverStopped, IsRunOf, HasRun}
+use Rattle.hybrid_run.specs.Headline.{names_of, program_of, calls_limit, IsModuleRun, HasRun}
 use Rattle.hybrid_run.specs.declared.value.Value.{Value}
 use Rattle.hybrid_run.specs.declared.value.Ending.{Ending}
 use Rattle.hybrid_run.specs.declared.value.Ending.TheVariants.{Gives, Raises}
@@ -57,14 +57,14 @@ module _ (name main : ℕ) (x : Expr) (s : Tables) where
       let is = comes values (Gives v) to d in
       let ts = map term_of values in (
         events_from 0 (length ts),
-        subst (λ (k : List ℕ). IsRunOf whole (events_from 0 (length ts)) (end_of (Gives v) ∷ []) k) (output_is values (Gives v))
+        subst (λ (k : List ℕ). IsModuleRun whole (events_from 0 (length ts)) (end_of (Gives v) ∷ []) k) (output_is values (Gives v))
             (prints_and_ends (program_of whole) own_atoms calls_limit NeverStopped 0 ts (term_of v) (ap (λ r. r.events) is ∙ displays_printed values) (ap (λ r. r.inputs) is) (ap (λ r. r.end) is)),
       )
   run_with values (Raises r) to d =
       let is = comes values (Raises r) to d in
       let ts = map term_of values in (
         events_from 0 (length ts),
-        subst (λ (k : List ℕ). IsRunOf whole (events_from 0 (length ts)) (end_of (Raises r) ∷ []) k) (output_is values (Raises r))
+        subst (λ (k : List ℕ). IsModuleRun whole (events_from 0 (length ts)) (end_of (Raises r) ∷ []) k) (output_is values (Raises r))
             (prints_and_raises (program_of whole) own_atoms calls_limit NeverStopped 0 ts Error (reason_of r) (ap (λ r. r.events) is ∙ displays_printed values) (ap (λ r. r.inputs) is) (ap (λ r. r.end) is)),
       )
 

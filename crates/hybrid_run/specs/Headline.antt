@@ -1,13 +1,10 @@
 -- The run of a module of the arithmetic forms, as the copying machine has it.
 use Rattle.std.specs.Prelude.{◌≡◌, ℕ, ◌<◌, ◌^◌, List, [], ◌∷◌, Option, None, Contains}
-use Rattle.hy_terms.specs.Term.{Term}
 use Rattle.hy_core.specs.BuiltIn.{own_atoms}
-use Rattle.hy_core.specs.FullRun.{IsFullRun}
-use Rattle.hy_core.specs.Machine.{Process}
+use Rattle.hy_core.specs.FullRun.{NeverStopped, IsFullRun}
 use Rattle.hy_core.specs.Reading.{IsModuleText}
 use Rattle.hy_core.specs.Resolve.{Names, function_trees}
 use Rattle.hy_core.specs.Resolved.{FunctionTree}
-use Rattle.hy_core.specs.declared.end.Cause.{Cause}
 use Rattle.hy_core.specs.declared.end.End.{End}
 use Rattle.hy_core.specs.declared.end.End.TheVariants.{Ended, Raised, Waits, Stopped}
 use Rattle.hy_core.specs.declared.step.Step.{Step}
@@ -30,17 +27,13 @@ program_of z = function_trees (names_of z) (z ∷ [])
 abbrev pub calls_limit : ℕ
 calls_limit = 10 ^ 7
 
--- no process is stopped
-abbrev pub NeverStopped : Process Term → Cause → Type 0
-NeverStopped p cause = ⊥
-
 -- the steps are a full run of the module's program on the copying machine, with these ends and this output
-abbrev pub IsRunOf : Module → List Step → List End → List ℕ → Type 0
-IsRunOf z steps ends output = IsFullRun (program_of z) own_atoms calls_limit NeverStopped 0 steps ends output
+abbrev pub IsModuleRun : Module → List Step → List End → List ℕ → Type 0
+IsModuleRun z steps ends output = IsFullRun (program_of z) own_atoms calls_limit NeverStopped 0 steps ends output
 
 -- the first process displays these values and ends so
 abbrev pub HasRun : Module → List Value → Ending → Type 0
-HasRun z values ending = (steps : List Step) × IsRunOf z steps (end_of ending ∷ []) (output_of values ending)
+HasRun z values ending = (steps : List Step) × IsModuleRun z steps (end_of ending ∷ []) (output_of values ending)
 
 -- the status of the program for the end of its first process
 abbrev pub status_of_end : End → ℕ
@@ -54,7 +47,7 @@ pub record Ran (z : Module) (before now : Option (List ℕ)) (answer : ℕ) : Ty
   pub steps : List Step
   pub end : End
   pub output : List ℕ
-  pub full : IsRunOf z steps (end ∷ []) output
+  pub full : IsModuleRun z steps (end ∷ []) output
   pub written : Appends before now output
   pub status : answer ≡ status_of_end end
 
@@ -63,7 +56,7 @@ pub record Cut (z : Module) (before now : Option (List ℕ)) : Type 0 where
   pub steps : List Step
   pub end : End
   pub output : List ℕ
-  pub full : IsRunOf z steps (end ∷ []) output
+  pub full : IsModuleRun z steps (end ∷ []) output
   pub written : AppendsPrefix before now output
 
 -- the text is no module of the arithmetic forms

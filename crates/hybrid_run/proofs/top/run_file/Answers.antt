@@ -1,8 +1,4 @@
-use Rattle.std.proofs.Common.{◌≡◌, List, ℕ, ◌∙◌, Option}
-use Rattle.std.specs.Prelude.{IfSome}
-use Rattle.hy_core.specs.declared.tree.Module.{Module}
 use Rattle.hybrid_run.specs.Headline.{Ran, Cut}
-use Rattle.hybrid_run.specs.Outside.{first_bytes}
 use Rattle.hybrid_run.proofs.Evaluating.{if_ok}
 use Rattle.hybrid_run.proofs.Finishing.{told_each, told_one, told_bytes}
 use Rattle.hybrid_run.proofs.top.run_file.Goals as goal
