@@ -5,7 +5,7 @@ use Rattle.hy_core.specs.declared.token.Word.TheVariants as w
 use Rattle.hy_core.specs.declared.token.ByteClass.{ByteClass}
 use Rattle.hy_core.specs.declared.token.ByteClass.TheVariants as c
 
--- the mark that is this one byte: ( ) [ ] < > , : / =
+-- the mark that is this one byte: ( ) { } [ ] < > , : / = |
 unfoldable pub mark_of : ℕ → Option Word
 mark_of b =
     if b == 40 then Some w.Open
@@ -18,6 +18,9 @@ mark_of b =
     else if b == 58 then Some w.Colon
     else if b == 47 then Some w.Slash
     else if b == 61 then Some w.Equals
+    else if b == 123 then Some w.OpenTuple
+    else if b == 125 then Some w.CloseTuple
+    else if b == 124 then Some w.Bar
     else None
 
 -- what a byte is that is no mark
@@ -28,6 +31,9 @@ plain_class b =
     else if nat_le 97 b && nat_le b 122 then c.Lower
     else if b == 95 || (nat_le 65 b && nat_le b 90) then c.Capital
     else if b == 39 then c.Quote
+    else if b == 34 then c.DoubleQuote
+    else if b == 36 then c.Dollar
+    else if b == 37 then c.Percent
     else if b == 92 then c.Backslash
     else if b == 64 then c.At
     else if b == 43 then c.Plus
@@ -42,7 +48,7 @@ class_by None b = plain_class b
 unfoldable pub class_of : ℕ → ByteClass
 class_of b = class_by (mark_of b) b
 
--- a byte that may stand between quotes
+-- a byte that a quoted token may hold as it is, its own quote and \ aside
 unfoldable pub is_printable : ℕ → Bool
 is_printable b = nat_le 32 b && nat_le b 126
 
@@ -53,6 +59,10 @@ is_digit _ = false
 abbrev pub is_lower : ByteClass → Bool
 is_lower c.Lower = true
 is_lower _ = false
+
+-- 0 to 7
+unfoldable pub is_octal : ℕ → Bool
+is_octal b = nat_le 48 b && nat_le b 55
 
 -- a letter, a digit or _
 abbrev pub is_word_part : ByteClass → Bool

@@ -3,18 +3,32 @@ use sqlite_items::Items;
 /// A keyword or a mark.
 #[derive(Clone, Copy, Debug, PartialEq, Eq)]
 pub enum Word {
+    After,
+    Apply,
     Attributes,
     Call,
+    Case,
+    Catch,
     Do,
     End,
     Fun,
     In,
     Let,
+    Letrec,
     Module,
+    Of,
+    Primop,
+    Receive,
+    Try,
+    When,
     /// `(`
     Open,
     /// `)`
     Close,
+    /// `{`
+    OpenTuple,
+    /// `}`
+    CloseTuple,
     /// `[`
     OpenList,
     /// `]`
@@ -31,8 +45,12 @@ pub enum Word {
     Slash,
     /// `=`
     Equals,
+    /// `|`
+    Bar,
     /// `->`
     Arrow,
+    /// `-|`
+    NoteBar,
 }
 
 /// What a byte is, where a token may begin.
@@ -47,6 +65,12 @@ pub enum ByteClass {
     Capital,
     /// `'`
     Quote,
+    /// `"`
+    DoubleQuote,
+    /// `$`
+    Dollar,
+    /// `%`
+    Percent,
     /// `\`
     Backslash,
     /// `@`
@@ -72,8 +96,12 @@ pub enum Sign {
 #[derive(Drop)]
 pub enum Token {
     Integer(Sign, Items<u8>),
-    /// What stands between the quotes.
+    /// The code of a character.
+    Character(u8),
+    /// What an atom stands for, without quotes and escapes.
     Atom(Items<u8>),
+    /// What a string stands for, without quotes and escapes.
+    Str(Items<u8>),
     Variable(Items<u8>),
     Word(Word),
 }
@@ -88,9 +116,9 @@ pub struct Lexeme {
 /// What comes behind the last token of a text.
 #[derive(Clone, Copy, Debug, PartialEq, Eq)]
 pub enum Ending {
-    /// Nothing but spaces.
+    /// Nothing but spaces and comments.
     Clean,
-    /// An atom that is open at the end.
+    /// An atom, a string or a character that is open at the end.
     Open,
     /// Bytes that form no token, with the number of bytes that are left there.
     Bad(usize),
