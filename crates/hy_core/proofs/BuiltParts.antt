@@ -2,7 +2,7 @@
 use Rattle.std.proofs.Common.{◌≡◌, ◌⊎◌, ℕ, ℤ, List, [], ◌∷◌, Some, refl, sym, ap, subst, ◌∙◌, inl, inr}
 use Rattle.std.specs.Prelude.{Contains, slice_get}
 use Rattle.hy_core.specs.Built.{IsBuilt, integer, variable, let_in, do_both, sum, display}
-use Rattle.hy_core.specs.Grammar.{the_erlang, the_plus, the_display}
+use Rattle.hy_core.specs.Built.{the_erlang, the_plus, the_display}
 use Rattle.hy_core.specs.declared.tree.Expr.{Expr}
 use Rattle.hy_core.specs.declared.tree.Expr.TheVariants as e
 use Rattle.hy_core.specs.declared.tree.Expr.TheOpen as layer

@@ -1,5 +1,4 @@
 pub mod AloneLemmas
-pub mod BuiltOf
 pub mod BuiltParts
 pub mod Forms
 pub mod MainLemmas

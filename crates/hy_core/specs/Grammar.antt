@@ -1,107 +1,61 @@
--- Which marked tokens are a module, and its tree: the arithmetic part of the grammar of the Core Erlang 1.0.3 report.
--- The numbering of atoms and variables, in the order in which they are first met, is this project's own.
-use Rattle.std.specs.Prelude.{◌≡◌, ℕ, ◌+◌, List, [], ◌∷◌, ◌++◌, codes, Contains}
-use Rattle.hy_terms.specs.Naming.{named}
-use Rattle.hy_core.specs.Bytes.{Pass, is_word_part}
-use Rattle.hy_core.specs.Marks.{Marked, at, plain, value, number}
+-- Which marked tokens are a module, and its tree: the grammar of the Core Erlang 1.0.3 report, floats and binaries aside.
+-- What is dropped, levels and the numbering of names are this project's own.
+use Rattle.std.specs.Prelude.{◌≡◌, ℕ, ◌+◌, ◌≤◌, List, [], ◌∷◌, ◌++◌, codes}
+use Rattle.hy_core.specs.Marks.{Marked, at, plain, word, value}
+use Rattle.hy_core.specs.Numbering.{atom_number, with_atom, no_tables}
+use Rattle.hy_core.specs.Annotations.{IsNote, IsName, AreAttributes}
+use Rattle.hy_core.specs.Expressions.{named_by, function, IsFunction}
 use Rattle.hy_core.specs.declared.token.Word.TheVariants as w
-use Rattle.hy_core.specs.declared.token.Sign.{Sign}
-use Rattle.hy_core.specs.declared.token.Sign.TheVariants as g
 use Rattle.hy_core.specs.declared.token.Token.TheVariants as t
 use Rattle.hy_core.specs.declared.tables.Tables.{Tables}
+use Rattle.hy_core.specs.declared.tree.FunName.{FunName}
+use Rattle.hy_core.specs.declared.tree.Function.{Function}
 use Rattle.hy_core.specs.declared.tree.Expr.{Expr}
-use Rattle.hy_core.specs.declared.tree.Expr.TheVariants as e
 use Rattle.hy_core.specs.declared.tree.Module.{Module}
 
--- the number of an atom, and the tables after it
-abbrev pub atom_number : Tables → List ℕ → ℕ
-atom_number s text = (named s.atoms text).0
+abbrev pub the_module_info : List ℕ
+the_module_info = codes "module_info"
 
-abbrev pub with_atom : Tables → List ℕ → Tables
-with_atom s text = record { atoms = (named s.atoms text).1; variables = s.variables }
+-- 'module_info'/0 and /1, which compilers add to a module, are dropped
+abbrev pub IsDropped : List ℕ → List ℕ → Type 0
+IsDropped text digits = (text ≡ the_module_info) × (value digits ≤ 1)
 
--- the number of a variable, and the tables after it
-abbrev pub variable_number : Tables → List ℕ → ℕ
-variable_number s text = (named s.variables text).0
+-- an exported name, or none where it is dropped
+pub data IsExport : ℕ → Tables → List Marked → List FunName → Tables → List Marked → Type 0 where
+  kept : {n : ℕ} {s : Tables} {ms q : List Marked} {text digits : List ℕ} → IsName n ms text digits q → (IsDropped text digits → ⊥)
+      → IsExport n s ms (named_by (atom_number s text) digits ∷ []) (with_atom s text) q
+  dropped : {n : ℕ} {s : Tables} {ms q : List Marked} {text digits : List ℕ} → IsName n ms text digits q → IsDropped text digits → IsExport n s ms [] s q
 
-abbrev pub with_variable : Tables → List ℕ → Tables
-with_variable s text = record { atoms = s.atoms; variables = (named s.variables text).1 }
+-- exported names with commas between them, and the bracket that closes them
+mutual
+  pub data AreExports : ℕ → Tables → List Marked → List FunName → Tables → List Marked → Type 0 where
+    no_exports : {n : ℕ} {s : Tables} {q : List Marked} → AreExports n s (word w.CloseList ∷ q) [] s q
+    some_exports : {n : ℕ} {s u o : Tables} {ms q r : List Marked} {xs ys : List FunName} → IsExport n s ms xs u q → AreMoreExports n u q ys o r → AreExports n s ms (xs ++ ys) o r
 
--- the tables where nothing was met
-abbrev pub no_tables : Tables
-no_tables = record { atoms = []; variables = [] }
+  pub data AreMoreExports : ℕ → Tables → List Marked → List FunName → Tables → List Marked → Type 0 where
+    no_more : {n : ℕ} {s : Tables} {q : List Marked} → AreMoreExports n s (word w.CloseList ∷ q) [] s q
+    one_more : {n : ℕ} {s u o : Tables} {ms q r : List Marked} {xs ys : List FunName} → IsExport n s ms xs u q → AreMoreExports n u q ys o r → AreMoreExports n s (word w.Comma ∷ ms) (xs ++ ys) o r
 
-abbrev pub the_main : List ℕ
-the_main = codes "main"
+-- the definitions of a module, whose bodies have level n where nothing is annotated, and the keyword behind them; the names in a dropped one aren't kept
+pub data AreDefinitions : ℕ → Tables → List Marked → List Function → Tables → List Marked → Type 0 where
+  no_definitions : {n : ℕ} {s : Tables} {q : List Marked} → AreDefinitions n s (word w.End ∷ q) [] s q
+  kept_definition : {n : ℕ} {s u o : Tables} {ms q r k : List Marked} {text digits vs : List ℕ} {x : Expr} {fs : List Function}
+      → IsName n ms text digits (word w.Equals ∷ q) → (IsDropped text digits → ⊥) → IsFunction n (with_atom s text) q vs x u r → AreDefinitions n u r fs o k
+      → AreDefinitions n s ms (function (named_by (atom_number s text) digits) vs x ∷ fs) o k
+  dropped_definition : {n : ℕ} {s u o : Tables} {ms q r k : List Marked} {text digits vs : List ℕ} {x : Expr} {fs : List Function}
+      → IsName n ms text digits (word w.Equals ∷ q) → IsDropped text digits → IsFunction n no_tables q vs x u r → AreDefinitions n s r fs o k
+      → AreDefinitions n s ms fs o k
 
-abbrev pub the_erlang : List ℕ
-the_erlang = codes "erlang"
+abbrev pub module_of : ℕ → List FunName → List Function → Tables → Module
+module_of name exports functions s = record { name = name; exports = exports; functions = functions; atoms = s.atoms; variables = s.variables }
 
-abbrev pub the_plus : List ℕ
-the_plus = codes "+"
+-- A module of level n. Its attributes are dropped.
+pub data IsModuleAt : ℕ → List Marked → Module → List Marked → Type 0 where
+  plain_module : {n : ℕ} {s u : Tables} {ms q r o : List Marked} {exports : List FunName} {functions : List Function} (name : List ℕ)
+      → AreExports (n + 1) (with_atom no_tables name) ms exports s (word w.Attributes ∷ word w.OpenList ∷ q) → AreAttributes (n + 1) q r → AreDefinitions (n + 1) s r functions u o
+      → IsModuleAt n (at n (t.Word w.Module) ∷ plain (t.Atom name) ∷ word w.OpenList ∷ ms) (module_of (atom_number no_tables name) exports functions u) o
+  noted : {n : ℕ} {ms q r : List Marked} {z : Module} → IsModuleAt (n + 1) ms z q → IsNote n q r → IsModuleAt n (at n (t.Word w.Open) ∷ ms) z r
 
-abbrev pub the_display : List ℕ
-the_display = codes "display"
-
--- a call of a name of a module, both by their numbers
-abbrev pub call : ℕ → ℕ → List Expr → Expr
-call m k args = e.Call (e.Atom m) (e.Atom k) args
-
--- the tables behind the head of a call
-abbrev pub with_head : Tables → List ℕ → Tables
-with_head s name = with_atom (with_atom s the_erlang) name
-
--- the call of 'erlang':name, whose head is read under these tables
-abbrev pub erlang_call : Tables → List ℕ → List Expr → Expr
-erlang_call s name args = call (atom_number s the_erlang) (atom_number (with_atom s the_erlang) name) args
-
--- the tokens of the head of a call of level n, with the parenthesis behind it
-abbrev pub head_tokens : ℕ → List ℕ → List Marked → List Marked
-head_tokens n name more = at n (t.Word w.Call) ∷ at (n + 1) (t.Atom the_erlang) ∷ plain (t.Word w.Colon) ∷ at (n + 1) (t.Atom name) ∷ plain (t.Word w.Open) ∷ more
-
--- an expression of level n, where the variables of these numbers are bound, between the tables before it and after it
-pub data IsExpr : ℕ → List ℕ → Tables → List Marked → Expr → Tables → Type 0 where
-  integer : {n : ℕ} {bound : List ℕ} {s : Tables} (sign : Sign) (digits : List ℕ) → IsExpr n bound s (at n (t.Integer sign digits) ∷ []) (e.Int (number sign (value digits))) s
-  variable : {n : ℕ} {bound : List ℕ} {s : Tables} (name : List ℕ) → Contains bound (variable_number s name)
-      → IsExpr n bound s (at n (t.Variable name) ∷ []) (e.Var (variable_number s name)) (with_variable s name)
-  let_in : {n : ℕ} {bound : List ℕ} {s u v : Tables} {a b : List Marked} {x y : Expr} (name : List ℕ)
-      → IsExpr (n + 1) bound (with_variable s name) a x u → IsExpr (n + 1) (variable_number s name ∷ bound) u b y v
-      → IsExpr n bound s
-      (at n (t.Word w.Let) ∷ plain (t.Word w.Less) ∷ plain (t.Variable name) ∷ plain (t.Word w.Greater) ∷ plain (t.Word w.Equals) ∷ (a ++ (plain (t.Word w.In) ∷ b)))
-      (e.Let (variable_number s name ∷ []) x y) v
-  do_both : {n : ℕ} {bound : List ℕ} {s u v : Tables} {a b : List Marked} {x y : Expr} → IsExpr (n + 1) bound s a x u → IsExpr (n + 1) bound u b y v
-      → IsExpr n bound s (at n (t.Word w.Do) ∷ (a ++ b)) (e.Do x y) v
-  sum : {n : ℕ} {bound : List ℕ} {s u v : Tables} {a b : List Marked} {x y : Expr} → IsExpr (n + 1) bound (with_head s the_plus) a x u → IsExpr (n + 1) bound u b y v
-      → IsExpr n bound s (head_tokens n the_plus (a ++ (plain (t.Word w.Comma) ∷ (b ++ (plain (t.Word w.Close) ∷ []))))) (erlang_call s the_plus (x ∷ y ∷ [])) v
-  display : {n : ℕ} {bound : List ℕ} {s u : Tables} {a : List Marked} {x : Expr} → IsExpr (n + 1) bound (with_head s the_display) a x u
-      → IsExpr n bound s (head_tokens n the_display (a ++ (plain (t.Word w.Close) ∷ []))) (erlang_call s the_display (x ∷ [])) u
-
--- the tables behind the name of a module and its export
-abbrev pub tables_of_head : List ℕ → Tables
-tables_of_head name = with_atom (with_atom no_tables name) the_main
-
--- the tokens of 'main'/0, with the zero as it is written
-abbrev pub main_tokens : List ℕ → List Marked → List Marked
-main_tokens zero more = plain (t.Atom the_main) ∷ plain (t.Word w.Slash) ∷ plain (t.Integer g.Absent zero) ∷ more
-
--- a module of one function 'main'/0 with this body, and its tables after the body
-abbrev pub main_module : ℕ → ℕ → Expr → Tables → Module
-main_module name main body s = record {
-  name = name;
-  exports = record { name = main; arity = 0 } ∷ [];
-  functions = record { name = record { name = main; arity = 0 }; params = []; body = body } ∷ [];
-  atoms = s.atoms;
-  variables = s.variables;
-}
-
--- A module without parentheses round it has level 0, so the body of its function has level 1.
-pub data IsModule : List Marked → Module → Type 0 where
-  module_of : {exported defined : List ℕ} {a : List Marked} {x : Expr} {u : Tables} (name : List ℕ) → Pass is_word_part name → value exported ≡ 0 → value defined ≡ 0
-      → IsExpr 1 [] (tables_of_head name) a x u
-      → IsModule
-      (plain (t.Word w.Module) ∷ plain (t.Atom name) ∷ plain (t.Word w.OpenList)
-      ∷ main_tokens exported
-      (plain (t.Word w.CloseList) ∷ plain (t.Word w.Attributes) ∷ plain (t.Word w.OpenList) ∷ plain (t.Word w.CloseList)
-      ∷ main_tokens defined
-      (plain (t.Word w.Equals) ∷ plain (t.Word w.Fun) ∷ plain (t.Word w.Open) ∷ plain (t.Word w.Close) ∷ plain (t.Word w.Arrow) ∷ (a ++ (plain (t.Word w.End) ∷ [])))))
-      (main_module (atom_number no_tables name) (atom_number (with_atom no_tables name) the_main) x u)
+-- the tokens are a module of this tree: one of level 0, and nothing behind it
+abbrev pub IsModule : List Marked → Module → Type 0
+IsModule ms z = IsModuleAt 0 ms z []

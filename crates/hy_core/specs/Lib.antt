@@ -1,5 +1,6 @@
 pub use Rattle.hy_terms.specs.Naming
 pub mod Alone
+pub mod Annotations
 pub mod BuiltIn
 pub mod BuiltInTable
 pub mod Built
@@ -9,14 +10,18 @@ pub mod Evaluation
 pub mod Evaluated
 pub mod EvaluationLaws
 pub mod Event
+pub mod Expressions
 pub mod FullRun
 pub mod Grammar
 pub mod Machine
 pub mod Marks
 pub mod Match
 pub mod Meaning
+pub mod Numbering
 pub mod Output
+pub mod Patterns
 pub mod Reading
+pub mod Refusals
 pub mod Resolve
 pub mod ResolvedExample
 pub mod Resolved
