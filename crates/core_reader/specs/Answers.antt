@@ -1,33 +1,21 @@
--- What the parts of the reader answer, by what reading on lists gives.
-use Rattle.std.specs.Prelude.{◌≡◌, ℕ, List, Option, Some, None, Result, Ok, Err}
-use Rattle.hy_core.specs.Reading.{IsModuleText}
-use Rattle.core_reader.specs.Machine.{ExprState, State}
-use Rattle.hy_core.specs.declared.tables.Tables.{Tables}
+-- What the reader answers.
+use Rattle.std.specs.Prelude.{◌≡◌, ℕ, Result, Ok, Err}
+use Rattle.hy_core.specs.declared.refusal.RefusalKind.{RefusalKind}
 use Rattle.hy_core.specs.declared.tree.Module.{Module}
 use Rattle.core_reader.specs.declared.answer.ReadAnswer.{ReadAnswer}
-use Rattle.core_reader.specs.declared.answer.ReadAnswer.TheVariants.{NotBuilt, Memory}
-use Rattle.core_reader.specs.declared.state.ExprMode.{ExprMode}
-use Rattle.core_reader.specs.declared.state.Frame.{Frame}
-use Rattle.core_reader.specs.declared.state.Mode.{Mode}
+use Rattle.core_reader.specs.declared.answer.ReadAnswer.TheVariants.{Refused, Memory}
 
-abbrev pub GivesExpr : Result ExprMode ReadAnswer → List Frame → Tables → Option ExprState → Type 0
-GivesExpr (Ok mode) fs s o = o ≡ Some (mode, fs, s)
-GivesExpr (Err NotBuilt) fs s o = o ≡ None
-GivesExpr (Err Memory) fs s o = Unit {0}
+-- a tree, or the kind of a refusal and its place
+abbrev pub Verdict : Type 0
+Verdict = Result Module (RefusalKind × ℕ)
 
-abbrev pub GivesState : Result Mode ReadAnswer → List Frame → Tables → Option State → Type 0
-GivesState (Ok mode) fs s o = o ≡ Some (mode, fs, s)
-GivesState (Err NotBuilt) fs s o = o ≡ None
-GivesState (Err Memory) fs s o = Unit {0}
+-- the answer is this verdict, or want of memory
+abbrev pub Gives : Result Module ReadAnswer → Verdict → Type 0
+Gives (Ok z) v = v ≡ Ok z
+Gives (Err (Refused r)) v = v ≡ Err (r.kind, r.place)
+Gives (Err Memory) v = Unit {0}
 
--- this tree, that there is none, or want of memory
-abbrev pub GivesModule : Result Module ReadAnswer → Option Module → Type 0
-GivesModule (Ok z) o = o ≡ Some z
-GivesModule (Err NotBuilt) o = o ≡ None
-GivesModule (Err Memory) o = Unit {0}
-
--- the tree of the text, that it has none, or want of memory
-abbrev pub GivesTree : Result Module ReadAnswer → List ℕ → Type 0
-GivesTree (Ok z) bytes = IsModuleText bytes z
-GivesTree (Err NotBuilt) bytes = (z : Module) → IsModuleText bytes z → ⊥
-GivesTree (Err Memory) bytes = Unit {0}
+-- where the answer is a refusal, this holds of its kind and its place
+abbrev pub IfRefused : Result Module ReadAnswer → (RefusalKind → ℕ → Type 0) → Type 0
+IfRefused (Err (Refused r)) Is = Is r.kind r.place
+IfRefused _ Is = Unit {0}

@@ -1,10 +1,17 @@
+use hy_core::RefusalKind;
 use std::alloc::AllocError;
+
+/// Why a text is no module, and the byte at which that shows.
+#[derive(Clone, Copy, Debug, PartialEq, Eq)]
+pub struct Refused {
+    pub kind: RefusalKind,
+    pub place: u64,
+}
 
 /// Why a text has no tree.
 #[derive(Clone, Copy, Debug, PartialEq, Eq)]
 pub enum ReadAnswer {
-    /// The text is no module of the part of the grammar that is read.
-    NotBuilt,
+    Refused(Refused),
     /// Want of memory.
     Memory,
 }

@@ -2,14 +2,7 @@
 #![tactic(auto)]
 
 mod answer;
-mod expr;
-mod fixed;
-mod module;
-mod number;
 mod read;
-mod scan;
-mod stack;
-mod state;
 
-pub use answer::ReadAnswer;
-pub use read::{one_tree, read_module};
+pub use answer::{ReadAnswer, Refused};
+pub use read::read_module;
