@@ -2,6 +2,12 @@
 use Rattle.std.specs.Prelude.{◌≡◌, ℕ, Result, Ok, Err}
 use Rattle.hy_core.specs.declared.refusal.RefusalKind.{RefusalKind}
 use Rattle.hy_core.specs.declared.tree.Module.{Module}
+use Rattle.core_reader.specs.Machine.{Reading}
+use Rattle.core_reader.specs.declared.state.State.{State}
+use Rattle.core_reader.specs.declared.answer.StepFault.{StepFault}
+use Rattle.core_reader.specs.declared.answer.StepFault.TheVariants as steps
+use Rattle.core_reader.specs.declared.answer.TokenAnswer.{TokenAnswer}
+use Rattle.core_reader.specs.declared.answer.TokenAnswer.TheVariants as tokens
 use Rattle.core_reader.specs.declared.answer.ReadAnswer.{ReadAnswer}
 use Rattle.core_reader.specs.declared.answer.ReadAnswer.TheVariants.{Refused, Memory}
 
@@ -19,3 +25,17 @@ Gives (Err Memory) v = Unit {0}
 abbrev pub IfRefused : Result Module ReadAnswer → (RefusalKind → ℕ → Type 0) → Type 0
 IfRefused (Err (Refused r)) Is = Is r.kind r.place
 IfRefused _ Is = Unit {0}
+
+-- ---- the parts of the reader, by what reading on lists gives
+
+-- the state after a step, or its fault, or want of memory
+abbrev pub GivesState : {A : Type 0} → Result A StepFault → State → Result State RefusalKind → Type 0
+GivesState (Ok _) r o = o ≡ Ok r
+GivesState (Err (steps.Refused kind)) r o = o ≡ Err kind
+GivesState (Err steps.Memory) r o = Unit {0}
+
+-- the tree of the tokens, or why they have none, or want of memory
+abbrev pub GivesReading : Result Module TokenAnswer → Reading → Type 0
+GivesReading (Ok z) o = o ≡ Ok z
+GivesReading (Err (tokens.Refused r)) o = o ≡ Err (r.kind, r.index)
+GivesReading (Err tokens.Memory) o = Unit {0}

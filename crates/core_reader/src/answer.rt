@@ -26,3 +26,37 @@ impl From<AllocError> for ReadAnswer {
         ReadAnswer::Memory
     }
 }
+
+/// Why a token isn't taken.
+#[derive(Clone, Copy, Debug, PartialEq, Eq)]
+pub enum StepFault {
+    Refused(RefusalKind),
+    /// Want of memory.
+    Memory,
+}
+
+impl From<AllocError> for StepFault {
+    ghost use Rattle.std.specs.Prelude.{◌≡◌};
+    ghost use Rattle.core_reader.specs.declared.answer.StepFault.TheVariants.{Memory};
+
+    ghost from_gives = { λ _ e. e ≡ Memory };
+
+    fn from(_error: AllocError) -> StepFault {
+        StepFault::Memory
+    }
+}
+
+/// Why tokens are no module: the kind of the refusal, and the number of tokens before it.
+#[derive(Clone, Copy, Debug, PartialEq, Eq)]
+pub struct RefusedToken {
+    pub kind: RefusalKind,
+    pub index: usize,
+}
+
+/// Why tokens have no tree.
+#[derive(Clone, Copy, Debug, PartialEq, Eq)]
+pub enum TokenAnswer {
+    Refused(RefusedToken),
+    /// Want of memory.
+    Memory,
+}

@@ -3,6 +3,8 @@
 
 mod answer;
 mod read;
+mod stack;
+mod state;
 
 pub use answer::{ReadAnswer, Refused};
 pub use read::read_module;

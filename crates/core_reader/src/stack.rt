@@ -1,0 +1,65 @@
+ghost use Rattle.std.specs.Prelude.{◌≡◌, [], ◌∷◌, reverse, OnOk, OnErr, MatchOption, IfOk};
+
+use std::alloc::{AllocError, Global};
+use std::marker::Model;
+
+/// A stack, which contracts see as a list with the top first.
+#[derive(Drop)]
+pub struct Stack<T> {
+    items: Vec<T>,
+}
+
+impl<T> Model for Stack<T> {
+    ghost use Rattle.std.specs.Prelude.{List, reverse};
+    ghost use Rattle.std.specs.Coded.{coded_list};
+
+    ghost Value = { List T };
+
+    ghost coded = { coded_list T.code };
+
+    ghost view = { λ s. reverse s.items.items };
+}
+
+impl<T> Stack<T> {
+    pub fn new(alloc: Global) -> Stack<T>
+        ensures { result ≡ [] }
+    {
+        Stack {
+            items: Vec::new(alloc),
+        }
+    }
+
+    /// The items, the top last.
+    pub fn as_slice(&self) -> &[T]
+        ensures { result.now ≡ reverse self.now }
+    {
+        self.items.as_slice()
+    }
+
+    pub fn pop(&mut self) -> Option<T>
+        ensures { MatchOption result ((self.old ≡ []) × (self.new ≡ [])) (λ top. self.old ≡ top ∷ self.new) }
+    {
+        self.items.pop()
+    }
+}
+
+impl<T: Drop> Stack<T> {
+    pub fn push(&mut self, top: T) -> Result<(), AllocError>
+        ensures ok { OnOk result (self.new ≡ top ∷ self.old) }
+        ensures err { OnErr result (self.new ≡ self.old) }
+    {
+        self.items.push(top)?;
+        Ok(())
+    }
+}
+
+impl<T: Copy> Stack<T> {
+    /// The stack of these items, the top last.
+    pub fn from_slice(alloc: Global, items: &[T]) -> Result<Stack<T>, AllocError>
+        ensures { IfOk result (λ stack. stack ≡ reverse items.now) }
+    {
+        Ok(Stack {
+            items: Vec::from_slice(alloc, items)?,
+        })
+    }
+}
