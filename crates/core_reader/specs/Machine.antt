@@ -22,6 +22,8 @@ use Rattle.hy_core.specs.declared.tree.Expr.TheVariants as e
 use Rattle.hy_core.specs.declared.tree.Module.{Module}
 use Rattle.core_reader.specs.declared.state.Part.{Part}
 use Rattle.core_reader.specs.declared.state.Part.TheVariants as part
+use Rattle.core_reader.specs.declared.state.Closer.{Closer}
+use Rattle.core_reader.specs.declared.state.Closer.TheVariants as closer
 use Rattle.core_reader.specs.declared.state.Form.{Form}
 use Rattle.core_reader.specs.declared.state.Form.TheVariants as f
 use Rattle.core_reader.specs.declared.state.Goal.{Goal}
@@ -79,6 +81,14 @@ is_word word _ = false
 abbrev pub is_next : Word → Option Token → Bool
 is_next word (Some token) = is_word word token
 is_next word None = false
+
+abbrev pub closing : Closer → Word
+closing closer.Tuple = w.CloseTuple
+closing closer.List = w.CloseList
+closing closer.Arguments = w.Close
+closing closer.Values = w.Greater
+closing closer.Case = w.End
+closing closer.Receive = w.After
 
 abbrev pub on : {A : Type 0} → Bool → A → Option A
 on true a = Some a
@@ -152,7 +162,7 @@ closed _ vs = None
 
 -- behind the bar of an annotation
 abbrev pub note_rest : ℕ → List Goal → List Goal
-note_rest n gs = g.Word w.OpenList ∷ g.Parts part.Constant (n + 1) w.CloseList ∷ g.Word w.Close ∷ gs
+note_rest n gs = g.Word w.OpenList ∷ g.Parts part.Constant (n + 1) closer.List ∷ g.Word w.Close ∷ gs
 
 -- a guard and a body
 abbrev pub clause_rest : ℕ → List Goal → List Goal
@@ -160,21 +170,21 @@ clause_rest n gs = g.Part part.Expr n ∷ g.Word w.Arrow ∷ g.Part part.Expr n 
 
 abbrev pub expr_opened : ℕ → List Goal → List Value → Tables → Word → Option State
 expr_opened n gs vs s w.OpenList = Some (state (g.Heads part.Expr n ∷ gs) (v.Exprs [] ∷ vs) s)
-expr_opened n gs vs s w.OpenTuple = Some (state (g.Parts part.Expr (n + 1) w.CloseTuple ∷ g.Build f.Tuple ∷ gs) vs s)
-expr_opened n gs vs s w.Less = Some (state (g.Parts part.Expr (n + 1) w.Greater ∷ g.Build f.Values ∷ gs) vs s)
+expr_opened n gs vs s w.OpenTuple = Some (state (g.Parts part.Expr (n + 1) closer.Tuple ∷ g.Build f.Tuple ∷ gs) vs s)
+expr_opened n gs vs s w.Less = Some (state (g.Parts part.Expr (n + 1) closer.Values ∷ g.Build f.Values ∷ gs) vs s)
 expr_opened n gs vs s w.Let = Some (state (g.Bindings (n + 1) ∷ g.Word w.Equals ∷ g.Part part.Expr (n + 1) ∷ g.Word w.In ∷ g.Part part.Expr (n + 1) ∷ g.Build f.Let ∷ gs) vs s)
 expr_opened n gs vs s w.Do = Some (state (g.Part part.Expr (n + 1) ∷ g.Part part.Expr (n + 1) ∷ g.Build f.Do ∷ gs) vs s)
-expr_opened n gs vs s w.Case = Some (state (g.Part part.Expr (n + 1) ∷ g.Word w.Of ∷ g.Build f.NoClauses ∷ g.Clause (n + 1) false ∷ g.Clauses (n + 1) w.End ∷ g.Build f.Case ∷ gs) vs s)
+expr_opened n gs vs s w.Case = Some (state (g.Part part.Expr (n + 1) ∷ g.Word w.Of ∷ g.Build f.NoClauses ∷ g.Clause (n + 1) false ∷ g.Clauses (n + 1) closer.Case ∷ g.Build f.Case ∷ gs) vs s)
 expr_opened n gs vs s w.Letrec = Some (state (g.Functions (n + 1) ∷ g.Part part.Expr (n + 1) ∷ g.Build f.Letrec ∷ gs) (v.Functions [] ∷ vs) s)
-expr_opened n gs vs s w.Apply = Some (state (g.Part part.Expr (n + 1) ∷ g.Word w.Open ∷ g.Parts part.Expr (n + 1) w.Close ∷ g.Build f.Apply ∷ gs) vs s)
-expr_opened n gs vs s w.Call = Some (state (g.Part part.Expr (n + 1) ∷ g.Word w.Colon ∷ g.Part part.Expr (n + 1) ∷ g.Word w.Open ∷ g.Parts part.Expr (n + 1) w.Close ∷ g.Build f.Call ∷ gs) vs s)
-expr_opened n gs vs s w.Primop = Some (state (g.Primop (n + 1) ∷ g.Word w.Open ∷ g.Parts part.Expr (n + 1) w.Close ∷ g.Build f.Primop ∷ gs) vs s)
-expr_opened n gs vs s w.Receive = Some (state (g.Clauses (n + 1) w.After ∷ g.Part part.Expr (n + 1) ∷ g.Word w.Arrow ∷ g.Part part.Expr (n + 1) ∷ g.Build f.Receive ∷ gs) (v.Clauses [] ∷ vs) s)
+expr_opened n gs vs s w.Apply = Some (state (g.Part part.Expr (n + 1) ∷ g.Word w.Open ∷ g.Parts part.Expr (n + 1) closer.Arguments ∷ g.Build f.Apply ∷ gs) vs s)
+expr_opened n gs vs s w.Call = Some (state (g.Part part.Expr (n + 1) ∷ g.Word w.Colon ∷ g.Part part.Expr (n + 1) ∷ g.Word w.Open ∷ g.Parts part.Expr (n + 1) closer.Arguments ∷ g.Build f.Call ∷ gs) vs s)
+expr_opened n gs vs s w.Primop = Some (state (g.Primop (n + 1) ∷ g.Word w.Open ∷ g.Parts part.Expr (n + 1) closer.Arguments ∷ g.Build f.Primop ∷ gs) vs s)
+expr_opened n gs vs s w.Receive = Some (state (g.Clauses (n + 1) closer.Receive ∷ g.Part part.Expr (n + 1) ∷ g.Word w.Arrow ∷ g.Part part.Expr (n + 1) ∷ g.Build f.Receive ∷ gs) (v.Clauses [] ∷ vs) s)
 expr_opened n gs vs s w.Try = Some (state
     (g.Part part.Expr (n + 1) ∷ g.Word w.Of ∷ g.Bindings (n + 1) ∷ g.Word w.Arrow ∷ g.Part part.Expr (n + 1) ∷ g.Word w.Catch
     ∷ g.Bindings (n + 1) ∷ g.Word w.Arrow ∷ g.Part part.Expr (n + 1) ∷ g.Build f.Try ∷ gs) vs s)
 expr_opened n gs vs s w.Catch = Some (state (g.Part part.Expr (n + 1) ∷ g.Build f.Catch ∷ gs) vs s)
-expr_opened n gs vs s w.Fun = Some (state (g.Word w.Open ∷ g.Parts part.Variable (n + 1) w.Close ∷ g.Word w.Arrow ∷ g.Part part.Expr (n + 1) ∷ g.Build f.Fun ∷ gs) vs s)
+expr_opened n gs vs s w.Fun = Some (state (g.Word w.Open ∷ g.Parts part.Variable (n + 1) closer.Arguments ∷ g.Word w.Arrow ∷ g.Part part.Expr (n + 1) ∷ g.Build f.Fun ∷ gs) vs s)
 expr_opened n gs vs s w.Open = Some (state (g.Part part.Expr (n + 1) ∷ g.Note n ∷ gs) vs s)
 expr_opened n gs vs s _ = None
 
@@ -188,7 +198,7 @@ expr_begun n gs vs s (t.Word word) = expr_opened n gs vs s word
 
 abbrev pub pattern_opened : ℕ → List Goal → List Value → Tables → Word → Option State
 pattern_opened n gs vs s w.OpenList = Some (state (g.Heads part.Pattern n ∷ gs) (v.Patterns [] ∷ vs) s)
-pattern_opened n gs vs s w.OpenTuple = Some (state (g.Parts part.Pattern (n + 1) w.CloseTuple ∷ g.Build f.PatternTuple ∷ gs) vs s)
+pattern_opened n gs vs s w.OpenTuple = Some (state (g.Parts part.Pattern (n + 1) closer.Tuple ∷ g.Build f.PatternTuple ∷ gs) vs s)
 pattern_opened n gs vs s w.Open = Some (state (g.Part part.Pattern (n + 1) ∷ g.Note n ∷ g.Alias n ∷ gs) vs s)
 pattern_opened n gs vs s _ = None
 
@@ -202,7 +212,7 @@ pattern_begun n gs vs s (t.Word word) = pattern_opened n gs vs s word
 
 abbrev pub constant_opened : ℕ → List Goal → List Value → Tables → Word → Option State
 constant_opened n gs vs s w.OpenList = Some (state (g.Heads part.Constant n ∷ gs) vs s)
-constant_opened n gs vs s w.OpenTuple = Some (state (g.Parts part.Constant (n + 1) w.CloseTuple ∷ gs) vs s)
+constant_opened n gs vs s w.OpenTuple = Some (state (g.Parts part.Constant (n + 1) closer.Tuple ∷ gs) vs s)
 constant_opened n gs vs s _ = None
 
 abbrev pub constant_begun : ℕ → List Goal → List Value → Tables → Token → Option State
@@ -263,18 +273,18 @@ definition_begun n gs vs s (t.Word w.Open) = Some (state (g.DefinitionName (n + 
 definition_begun n gs vs s _ = None
 
 abbrev pub body_begun : ℕ → List Goal → List Value → Tables → Token → Option State
-body_begun n gs vs s (t.Word w.Fun) = Some (state (g.Word w.Open ∷ g.Parts part.Variable n w.Close ∷ g.Word w.Arrow ∷ g.Part part.Expr n ∷ gs) vs s)
+body_begun n gs vs s (t.Word w.Fun) = Some (state (g.Word w.Open ∷ g.Parts part.Variable n closer.Arguments ∷ g.Word w.Arrow ∷ g.Part part.Expr n ∷ gs) vs s)
 body_begun n gs vs s (t.Word w.Open) = Some (state (g.FunctionBody (n + 1) ∷ g.Note n ∷ gs) vs s)
 body_begun n gs vs s _ = None
 
 abbrev pub clause_begun : ℕ → Bool → List Goal → List Value → Tables → Token → Option State
 clause_begun n inner gs vs s (t.Word w.Open) = Some (state (g.Clause (n + 1) true ∷ g.ClauseNote n inner ∷ gs) vs s)
-clause_begun n inner gs vs s (t.Word w.Less) = Some (state (g.Parts part.Pattern n w.Greater ∷ g.Word w.When ∷ clause_rest n gs) vs s)
+clause_begun n inner gs vs s (t.Word w.Less) = Some (state (g.Parts part.Pattern n closer.Values ∷ g.Word w.When ∷ clause_rest n gs) vs s)
 clause_begun n inner gs vs s token = pattern_begun n (g.ClauseRest n inner ∷ gs) vs s token
 
 abbrev pub module_begun : ℕ → List Goal → List Value → Tables → Token → Option State
 module_begun n gs vs s (t.Word w.Module) = Some (state
-    (g.ModuleName ∷ g.Word w.OpenList ∷ g.Parts part.Export (n + 1) w.CloseList ∷ g.Word w.Attributes ∷ g.Word w.OpenList ∷ g.Parts part.Attribute (n + 1) w.CloseList
+    (g.ModuleName ∷ g.Word w.OpenList ∷ g.Parts part.Export (n + 1) closer.List ∷ g.Word w.Attributes ∷ g.Word w.OpenList ∷ g.Parts part.Attribute (n + 1) closer.List
     ∷ g.Build f.NoFunctions ∷ g.Definitions (n + 1) ∷ gs) vs s)
 module_begun n gs vs s (t.Word w.Open) = Some (state (g.Module (n + 1) ∷ g.Note n ∷ gs) vs s)
 module_begun n gs vs s _ = None
@@ -286,15 +296,15 @@ abbrev pub with_values : Option (List Value) → (List Value → Option State) �
 with_values None go = None
 with_values (Some vs) go = go vs
 
-abbrev pub parts_moved : Part → ℕ → Word → List Goal → List Value → Tables → Token → Option State
-parts_moved k n close gs vs s token =
-    if is_word close token then Some (state gs (opened k vs) s)
-    else part_begun k n (g.MoreParts k n close ∷ gs) (opened k vs) s token
+abbrev pub parts_moved : Part → ℕ → Closer → List Goal → List Value → Tables → Token → Option State
+parts_moved k n c gs vs s token =
+    if is_word (closing c) token then Some (state gs (opened k vs) s)
+    else part_begun k n (g.MoreParts k n c ∷ gs) (opened k vs) s token
 
-abbrev pub more_parts_moved : Part → ℕ → Word → List Goal → List Value → Tables → Token → Option State
-more_parts_moved k n close gs vs s token =
-    if is_word close token then with_values (added k vs) (λ ws. Some (state gs ws s))
-    else if is_word w.Comma token then with_values (added k vs) (λ ws. Some (state (g.Part k n ∷ g.MoreParts k n close ∷ gs) ws s))
+abbrev pub more_parts_moved : Part → ℕ → Closer → List Goal → List Value → Tables → Token → Option State
+more_parts_moved k n c gs vs s token =
+    if is_word (closing c) token then with_values (added k vs) (λ ws. Some (state gs ws s))
+    else if is_word w.Comma token then with_values (added k vs) (λ ws. Some (state (g.Part k n ∷ g.MoreParts k n c ∷ gs) ws s))
     else None
 
 abbrev pub heads_moved : Part → ℕ → List Goal → List Value → Tables → Token → Option State
@@ -350,13 +360,13 @@ alias_moved n gs vs s token = None
 
 abbrev pub bindings_moved : ℕ → List Goal → List Value → Tables → Token → Option State
 bindings_moved n gs vs s token =
-    if is_word w.Less token then Some (state (g.Parts part.Variable n w.Greater ∷ gs) vs s)
+    if is_word w.Less token then Some (state (g.Parts part.Variable n closer.Values ∷ gs) vs s)
     else variable_begun n (g.Build f.OneVariable ∷ gs) vs s token
 
-abbrev pub clauses_moved : ℕ → Word → List Goal → List Value → Tables → Token → Option State
-clauses_moved n close gs vs s token =
-    if is_word close token then Some (state gs vs s)
-    else clause_begun n false (g.Clauses n close ∷ gs) vs s token
+abbrev pub clauses_moved : ℕ → Closer → List Goal → List Value → Tables → Token → Option State
+clauses_moved n c gs vs s token =
+    if is_word (closing c) token then Some (state gs vs s)
+    else clause_begun n false (g.Clauses n c ∷ gs) vs s token
 
 abbrev pub clause_rest_moved : ℕ → List Goal → List Value → Tables → Token → Option State
 clause_rest_moved n gs (v.Pattern x ∷ vs) s token = on (is_word w.When token) (state (clause_rest n gs) (v.Patterns (x ∷ []) ∷ vs) s)
@@ -385,8 +395,8 @@ name_moved gs vs s _ = None
 abbrev pub goal_moved : Goal → List Goal → List Value → Tables → Token → Option State
 goal_moved (g.Word word) gs vs s token = on (is_word word token) (state gs vs s)
 goal_moved (g.Part k n) gs vs s token = part_begun k n gs vs s token
-goal_moved (g.Parts k n close) gs vs s token = parts_moved k n close gs vs s token
-goal_moved (g.MoreParts k n close) gs vs s token = more_parts_moved k n close gs vs s token
+goal_moved (g.Parts k n c) gs vs s token = parts_moved k n c gs vs s token
+goal_moved (g.MoreParts k n c) gs vs s token = more_parts_moved k n c gs vs s token
 goal_moved (g.Heads k n) gs vs s token = heads_moved k n gs vs s token
 goal_moved (g.MoreHeads k n) gs vs s token = more_heads_moved k n gs vs s token
 goal_moved (g.Tail k n) gs vs s token = tail_moved k n gs vs s token
@@ -394,7 +404,7 @@ goal_moved g.NameOrAtom gs vs s token = on (is_word w.Slash token) (state (g.Ari
 goal_moved g.Arity gs vs s token = arity_moved gs vs s token
 goal_moved (g.Alias n) gs vs s token = alias_moved n gs vs s token
 goal_moved (g.Bindings n) gs vs s token = bindings_moved n gs vs s token
-goal_moved (g.Clauses n close) gs vs s token = clauses_moved n close gs vs s token
+goal_moved (g.Clauses n c) gs vs s token = clauses_moved n c gs vs s token
 goal_moved (g.Clause n inner) gs vs s token = clause_begun n inner gs vs s token
 goal_moved (g.ClauseRest n inner) gs vs s token = clause_rest_moved n gs vs s token
 goal_moved (g.ClauseNote n inner) gs vs s token = on (is_word w.NoteBar token) (state (note_rest n (behind_note n inner gs vs)) vs s)
@@ -441,11 +451,11 @@ arity_mark token = record { level = 0; role = OfArity; token = token }
 
 abbrev pub mark : Goal → Token → Marked
 mark (g.Part k n) token = part_mark k n token
-mark (g.Parts k n close) token = if is_word close token then plain token else part_mark k n token
+mark (g.Parts k n c) token = if is_word (closing c) token then plain token else part_mark k n token
 mark (g.Heads k n) token = if is_word w.CloseList token then plain token else part_mark k (n + 1) token
 mark (g.Tail k n) token = if is_word w.OpenList token then part_mark k n token else part_mark k (n + 1) token
 mark (g.Bindings n) token = annotation_mark n token
-mark (g.Clauses n close) token = if is_word close token then plain token else clause_mark n token
+mark (g.Clauses n c) token = if is_word (closing c) token then plain token else clause_mark n token
 mark (g.Clause n inner) token = clause_mark n token
 mark (g.Key n) token = annotation_mark n token
 mark (g.AttributeValue n) token = value_mark n token

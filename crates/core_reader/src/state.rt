@@ -18,6 +18,23 @@ pub enum Part {
     Attribute,
 }
 
+/// What closes a list of parts.
+#[derive(Clone, Copy, Debug, PartialEq, Eq)]
+pub enum Closer {
+    /// `}`
+    Tuple,
+    /// `]`
+    List,
+    /// `)`
+    Arguments,
+    /// `>`
+    Values,
+    /// `end`
+    Case,
+    /// `after`
+    Receive,
+}
+
 /// What a tree is made of whose parts are read: they lie on the stack of values, the last on top.
 #[derive(Clone, Copy, Debug, PartialEq, Eq)]
 pub enum Form {
@@ -58,10 +75,10 @@ pub enum Goal {
     /// This keyword or mark.
     Word(Word),
     Part(Part, u32),
-    /// Parts with commas between them, and the mark that closes them.
-    Parts(Part, u32, Word),
+    /// Parts with commas between them, and what closes them.
+    Parts(Part, u32, Closer),
     /// The same behind a part.
-    MoreParts(Part, u32, Word),
+    MoreParts(Part, u32, Closer),
     /// A list notation behind its bracket, or behind a bar and the bracket of its tail.
     Heads(Part, u32),
     /// A list notation behind a head.
@@ -76,8 +93,8 @@ pub enum Goal {
     Alias(u32),
     /// The variables that values side by side are bound to.
     Bindings(u32),
-    /// Clauses, and the keyword behind them.
-    Clauses(u32, Word),
+    /// Clauses, and what closes them.
+    Clauses(u32, Closer),
     /// A clause; behind a parenthesis it may turn out to be a pattern.
     Clause(u32, bool),
     /// Behind a pattern: the rest of its clause, or nothing where it stands behind a parenthesis.

@@ -61,12 +61,13 @@ pub data IsAttributeValue : ℕ → List Marked → List Marked → Type 0 where
   unannotated : {n : ℕ} {ms q : List Marked} → IsConstant n ms q → IsAttributeValue n ms q
   noted : {n : ℕ} {ms q r : List Marked} → IsAttributeValue (n + 1) ms q → IsNote n q r → IsAttributeValue n (at n (t.Word w.Open) ∷ ms) r
 
--- attributes with commas between them, and the bracket that closes them, where constants in them have level n
+-- attributes with commas between them, and the mark that closes them, where constants in them have level n
 mutual
-  pub data AreAttributes : ℕ → List Marked → List Marked → Type 0 where
-    none : {n : ℕ} {q : List Marked} → AreAttributes n (word w.CloseList ∷ q) q
-    some : {n : ℕ} {ms q r o : List Marked} {key : List ℕ} → IsAtom n ms key (word w.Equals ∷ q) → IsAttributeValue n q r → AreMoreAttributes n r o → AreAttributes n ms o
+  pub data AreAttributes : ℕ → Word → List Marked → List Marked → Type 0 where
+    none : {n : ℕ} {close : Word} {q : List Marked} → AreAttributes n close (word close ∷ q) q
+    some : {n : ℕ} {close : Word} {ms q r o : List Marked} {key : List ℕ} → IsAtom n ms key (word w.Equals ∷ q) → IsAttributeValue n q r → AreMoreAttributes n close r o → AreAttributes n close ms o
 
-  pub data AreMoreAttributes : ℕ → List Marked → List Marked → Type 0 where
-    no_more : {n : ℕ} {q : List Marked} → AreMoreAttributes n (word w.CloseList ∷ q) q
-    one_more : {n : ℕ} {ms q r o : List Marked} {key : List ℕ} → IsAtom n ms key (word w.Equals ∷ q) → IsAttributeValue n q r → AreMoreAttributes n r o → AreMoreAttributes n (word w.Comma ∷ ms) o
+  pub data AreMoreAttributes : ℕ → Word → List Marked → List Marked → Type 0 where
+    no_more : {n : ℕ} {close : Word} {q : List Marked} → AreMoreAttributes n close (word close ∷ q) q
+    one_more : {n : ℕ} {close : Word} {ms q r o : List Marked} {key : List ℕ} → IsAtom n ms key (word w.Equals ∷ q) → IsAttributeValue n q r → AreMoreAttributes n close r o
+        → AreMoreAttributes n close (word w.Comma ∷ ms) o
