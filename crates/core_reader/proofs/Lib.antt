@@ -1,1 +1,5 @@
+pub mod Tests
 pub mod Meaning
+pub mod Joins
+pub mod Forth
+pub mod ForthExprs
