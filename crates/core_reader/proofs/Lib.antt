@@ -3,3 +3,4 @@ pub mod Meaning
 pub mod Joins
 pub mod Forth
 pub mod ForthExprs
+pub mod ForthGoals
