@@ -4,3 +4,4 @@ pub mod Joins
 pub mod Forth
 pub mod ForthExprs
 pub mod ForthGoals
+pub mod Back
