@@ -1,0 +1,4 @@
+pub mod Found
+pub mod Scanned
+pub mod OneLexing
+pub mod ScanLoop
