@@ -5,5 +5,7 @@ mod byte;
 mod escape;
 mod scan;
 mod state;
+#[cfg(test)]
+mod tests;
 
 pub use scan::{Lexed, lex, one_lexing};
