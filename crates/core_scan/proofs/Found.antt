@@ -80,7 +80,7 @@ letter_read b k is = at (b == 94) refl
     at true h = absurd (let none = caret_no_letter b h in cc)
     at false h = rw (h, is) refl
 
-pub first_read : (b : ℕ) → is_octal b ≡ true → after_backslash b ≡ y.Open (x.OneDigit (b - 48))
+first_read : (b : ℕ) → is_octal b ≡ true → after_backslash b ≡ y.Open (x.OneDigit (b - 48))
 first_read b is = rw (octal_no_caret b is, octal_no_letter b is, is) refl
 
 control_read : (b : ℕ) → 64 ≤ b → b ≤ 95 → escaping x.Control b ≡ y.Closed (b - 64)
@@ -164,13 +164,13 @@ closes_is q.Single _ is = absurd cc
 closes_is q.Double c.DoubleQuote is = refl
 closes_is q.Double _ is = absurd cc
 
-pub closes_not : (quote : Quote) (k : ByteClass) → (k ≡ quote_class quote → ⊥) → closes quote k ≡ false
+closes_not : (quote : Quote) (k : ByteClass) → (k ≡ quote_class quote → ⊥) → closes quote k ≡ false
 closes_not q.Single c.Quote not = absurd (not refl)
 closes_not q.Single _ not = refl
 closes_not q.Double c.DoubleQuote not = absurd (not refl)
 closes_not q.Double _ not = refl
 
-pub no_quote_escapes : (quote : Quote) → c.Backslash ≡ quote_class quote → ⊥
+no_quote_escapes : (quote : Quote) → c.Backslash ≡ quote_class quote → ⊥
 no_quote_escapes q.Single is = cc
 no_quote_escapes q.Double is = cc
 
@@ -178,13 +178,13 @@ inside_plain : (m : ℕ) (quote : Quote) (text : List ℕ) (b : ℕ) (k : ByteCl
 inside_plain m quote text b c.Backslash p not = absurd (not refl)
 inside_plain m quote text b _ p not = rw p refl
 
-pub in_quotes_closes : (m : ℕ) (quote : Quote) (text : List ℕ) (b : ℕ) → class_of b ≡ quote_class quote → in_quotes m quote text b ≡ (s.Gap, lexeme m (quoted_token quote text) ∷ [])
+in_quotes_closes : (m : ℕ) (quote : Quote) (text : List ℕ) (b : ℕ) → class_of b ≡ quote_class quote → in_quotes m quote text b ≡ (s.Gap, lexeme m (quoted_token quote text) ∷ [])
 in_quotes_closes m quote text b is = rw (closes_own quote (class_of b) is) refl
 
-pub in_quotes_plain : (m : ℕ) (quote : Quote) (text : List ℕ) (b : ℕ) → is_printable b ≡ true → (class_of b ≡ quote_class quote → ⊥) → (class_of b ≡ c.Backslash → ⊥) → in_quotes m quote text b ≡ (s.Quoted m quote (text ++ b ∷ []), [])
+in_quotes_plain : (m : ℕ) (quote : Quote) (text : List ℕ) (b : ℕ) → is_printable b ≡ true → (class_of b ≡ quote_class quote → ⊥) → (class_of b ≡ c.Backslash → ⊥) → in_quotes m quote text b ≡ (s.Quoted m quote (text ++ b ∷ []), [])
 in_quotes_plain m quote text b p no_quote no_escape = rw (closes_not quote (class_of b) no_quote) (inside_plain m quote text b (class_of b) p no_escape)
 
-pub in_quotes_escape : (m : ℕ) (quote : Quote) (text : List ℕ) (b : ℕ) → class_of b ≡ c.Backslash → in_quotes m quote text b ≡ (s.QuotedEscape m quote text x.Begun, [])
+in_quotes_escape : (m : ℕ) (quote : Quote) (text : List ℕ) (b : ℕ) → class_of b ≡ c.Backslash → in_quotes m quote text b ≡ (s.QuotedEscape m quote text x.Begun, [])
 in_quotes_escape m quote text b is = rw (closes_not quote (class_of b) (λ h. no_quote_escapes quote (sym is ∙ h)), is) refl
 
 -- what stands behind a body is no part of its escapes

@@ -5,7 +5,9 @@ use Rattle.hy_core.specs.Bytes.{class_of}
 use Rattle.hy_core.specs.Tokens.{IsToken, integer, signed, character, escape, atom, string, variable, word, mark, mark_of_two, IsOpen, HasNoToken, IsRemark, EndsLine, Lexes, done, space, comment, token, open_token, no_token, AreWithin, EndsWithin}
 use Rattle.core_scan.specs.Scan.{scan}
 use Rattle.core_scan.proofs.Found.{Scanned, before, scan_token}
-use Rattle.core_scan.proofs.Scanned.{BeginsQuoted, scan_lexes, line_feed_class, not_open}
+use Rattle.core_scan.proofs.Unfinished.{BeginsQuoted, not_open}
+use Rattle.core_scan.proofs.Stepped.{line_feed_class}
+use Rattle.core_scan.proofs.Scanned.{scan_lexes}
 use Rattle.hy_core.specs.declared.token.ByteClass.TheVariants as c
 use Rattle.hy_core.specs.declared.token.Token.{Token}
 use Rattle.hy_core.specs.declared.token.Lexeme.{Lexeme}

@@ -64,7 +64,7 @@ fn step(
 {
     match state {
         State::Gap => begin(alloc, left, b, out),
-        State::Comment => in_comment(b, out),
+        State::Comment => Ok(in_comment(b)),
         State::Signed(from, sign) => in_signed(alloc, from, sign, b, out),
         State::Integer(from, sign, digits) => in_integer(alloc, left, from, sign, digits, b, out),
         State::Variable(from, text) => in_variable(alloc, left, from, text, b, out),
@@ -81,13 +81,13 @@ fn step(
     }
 }
 
-fn in_comment(b: u8, out: &mut Items<Lexeme>) -> Result<State, AllocError>
-    ensures { IfOk result (λ s. Steps out.old out.new s (stepped 0 Comment b)) }
+fn in_comment(b: u8) -> State
+    ensures { stepped 0 Comment b ≡ (result, []) }
 {
     if b == b'\n' {
-        Ok(State::Gap)
+        State::Gap
     } else {
-        Ok(State::Comment)
+        State::Comment
     }
 }
 
@@ -236,6 +236,7 @@ fn quoted(quote: Quote, text: Items<u8>) -> Token
     }
 }
 
+/// A byte of an escape between quotes. The byte that ends an octal escape is taken again, behind it.
 fn in_quoted_escape(
     from: usize,
     quote: Quote,
@@ -278,6 +279,7 @@ fn in_character(from: usize, b: u8, out: &mut Items<Lexeme>) -> Result<State, Al
     Ok(State::Gap)
 }
 
+/// A byte of a character's escape. The byte that ends an octal escape is taken again, behind the token.
 fn in_character_escape(
     alloc: Global,
     left: usize,
