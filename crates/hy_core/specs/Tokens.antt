@@ -136,3 +136,12 @@ pub data Lexes : List ℕ → List Lexeme → Ending → Type 0 where
   open_token : {b : ℕ} {bs : List ℕ} → HasNoToken (b ∷ bs) → IsOpen (b ∷ bs) → Lexes (b ∷ bs) [] e.Open
   no_token : {b : ℕ} {bs : List ℕ} → HasNoToken (b ∷ bs) → (IsOpen (b ∷ bs) → ⊥) → (class_of b ≡ c.Space → ⊥) → (class_of b ≡ c.Percent → ⊥)
       → Lexes (b ∷ bs) [] (e.Bad (length (b ∷ bs)))
+
+-- each of these tokens begins inside a text of so many bytes
+abbrev pub AreWithin : ℕ → List Lexeme → Type 0
+AreWithin size ls = AllByRecursion (λ l. l.left ≤ size) ls
+
+-- bytes that form no token begin inside it
+abbrev pub EndsWithin : ℕ → Ending → Type 0
+EndsWithin size (e.Bad left) = left ≤ size
+EndsWithin size _ = Unit {0}
