@@ -214,10 +214,10 @@ pub function_name_forth : {n : ℕ} {ms q : List Marked} {text digits : List ℕ
 function_name_forth (notes.name text digits) gs vs s z h = (refl, (_, refl, (_, (_, refl, h))))
 function_name_forth (notes.noted d end) gs vs s z h = (refl, (_, _, _, d, (_, end, h)))
 
-info_is : (text : List ℕ) → is_info text ≡ true → text ≡ the_module_info
+pub info_is : (text : List ℕ) → is_info text ≡ true → text ≡ the_module_info
 info_is text h = (bytes_eq-Decides text the_module_info).0 h
 
-not_info : (text : List ℕ) → is_info text ≡ false → text ≡ the_module_info → ⊥
+pub not_info : (text : List ℕ) → is_info text ≡ false → text ≡ the_module_info → ⊥
 not_info text h is = let bad : true ≡ false = sym (ap is_info is ∙ bytes_eq-same the_module_info) ∙ h in cc
 
 pub definition_name_forth : {n : ℕ} {ms q : List Marked} {text digits : List ℕ} → IsName n ms text digits q → (gs : List Goal) (vs : List Value) (s : Tables) (z : Module)

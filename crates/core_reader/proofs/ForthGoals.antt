@@ -27,7 +27,7 @@ use Rattle.core_reader.specs.declared.state.State.{State}
 use Rattle.hy_core.specs.Patterns.{IsNotBefore}
 use Rattle.hy_core.specs.Expressions.{named_by}
 use Rattle.hy_core.specs.Grammar.{the_module_info, IsDropped}
-use Rattle.core_reader.specs.Machine.{state, is_word, is_next, built, with_built, goal_moved, info_arity_moved, info_export_moved, aliased_by, behind_note, mark, settled, taken, taken_from, stepped, checked}
+use Rattle.core_reader.specs.Machine.{state, closing, is_word, is_next, built, with_built, goal_moved, info_arity_moved, info_export_moved, aliased_by, behind_note, mark, settled, taken, taken_from, stepped, checked}
 use Rattle.core_reader.proofs.Tests.{first_of, is_itself, word_at, not_next, next_not}
 use Rattle.core_reader.proofs.Meaning.{Completes, OnBuilt, DefinedThen, ExportedThen}
 use Rattle.core_reader.proofs.Forth.{Moves, Forth, forth_at, constant_forth, constants_forth, more_constants_forth, constant_list_forth, constant_end_forth, constant_tail_forth, note_forth, key_forth, primop_forth, value_forth, attribute_forth, attributes_forth, more_attributes_forth, variable_forth, variables_forth, more_variables_forth, bindings_forth, pattern_forth, patterns_forth, more_patterns_forth, pattern_list_forth, pattern_end_forth, pattern_tail_forth}
@@ -77,6 +77,32 @@ info_export_forth gs es vs s digits q z (inl (never, h)) = by (leb_tells (value 
     by (inr (is, gt)) = rw is h
 info_export_forth gs es vs s digits q z (inr (is, h)) = rw (le-leb (value digits) 1 is.1) h
 
+-- ---- lists, whether or not their beginning is on top
+
+more_exports_next : (n : ℕ) (c : Closer) (gs : List Goal) (vs : List Value) (s : Tables) (ms : List Marked) (z : Module) → Completes (g.MoreParts part.Export n c ∷ gs) vs s ms z
+    → Forth (mark (g.MoreParts part.Export n c)) (goal_moved (g.MoreParts part.Export n c) gs vs s) ms z
+more_exports_next n c gs (v.Names es ∷ vs) s ms z h = more_exports_forth c h.3 es gs vs z h.4
+more_exports_next n c gs [] s ms z h = word_forth (g.MoreParts part.Export n c) gs [] s (closing c) ms h.0 z h.1 refl (rw (is_itself (closing c)) h.2)
+more_exports_next n c gs (x ∷ vs) s ms z h = word_forth (g.MoreParts part.Export n c) gs (x ∷ vs) s (closing c) ms h.0 z h.1 refl (rw (is_itself (closing c)) h.2)
+
+clauses_next : (n : ℕ) (c : Closer) (gs : List Goal) (vs : List Value) (s : Tables) (ms : List Marked) (z : Module) → Completes (g.Clauses n c ∷ gs) vs s ms z
+    → Forth (mark (g.Clauses n c)) (goal_moved (g.Clauses n c) gs vs s) ms z
+clauses_next n c gs (v.Clauses bs ∷ vs) s ms z h = clauses_forth c h.3 bs gs vs z h.4
+clauses_next n c gs [] s ms z h = word_forth (g.Clauses n c) gs [] s (closing c) ms h.0 z h.1 (rw (is_itself (closing c)) refl) (rw (is_itself (closing c)) h.2)
+clauses_next n c gs (x ∷ vs) s ms z h = word_forth (g.Clauses n c) gs (x ∷ vs) s (closing c) ms h.0 z h.1 (rw (is_itself (closing c)) refl) (rw (is_itself (closing c)) h.2)
+
+functions_next : (n : ℕ) (gs : List Goal) (vs : List Value) (s : Tables) (ms : List Marked) (z : Module) → Completes (g.Functions n ∷ gs) vs s ms z
+    → Forth (mark (g.Functions n)) (goal_moved (g.Functions n) gs vs s) ms z
+functions_next n gs (v.Functions es ∷ vs) s ms z h = functions_forth h.3 es gs vs z h.4
+functions_next n gs [] s ms z h = word_forth (g.Functions n) gs [] s w.In ms h.0 z h.1 refl h.2
+functions_next n gs (x ∷ vs) s ms z h = word_forth (g.Functions n) gs (x ∷ vs) s w.In ms h.0 z h.1 refl h.2
+
+definitions_next : (n : ℕ) (gs : List Goal) (vs : List Value) (s : Tables) (ms : List Marked) (z : Module) → Completes (g.Definitions n ∷ gs) vs s ms z
+    → Forth (mark (g.Definitions n)) (goal_moved (g.Definitions n) gs vs s) ms z
+definitions_next n gs (v.Functions es ∷ vs) s ms z h = definitions_forth h.3 es gs vs z h.4
+definitions_next n gs [] s ms z h = word_forth (g.Definitions n) gs [] s w.End ms h.0 z h.1 refl h.2
+definitions_next n gs (x ∷ vs) s ms z h = word_forth (g.Definitions n) gs (x ∷ vs) s w.End ms h.0 z h.1 refl h.2
+
 -- ---- every goal
 
 pub goal_forth : (goal : Goal) (gs : List Goal) (vs : List Value) (s : Tables) (ms : List Marked) (z : Module) → Sits goal (first_of ms) → Completes (goal ∷ gs) vs s ms z
@@ -98,7 +124,7 @@ goal_forth (g.Parts part.Attribute n c) gs vs s ms z sits (q, d, h) = attributes
 goal_forth (g.MoreParts part.Expr n c) gs (v.Expr x ∷ v.Exprs xs ∷ vs) s ms z sits (ys, u, q, d, h) = more_exprs_forth c d x xs gs vs z h
 goal_forth (g.MoreParts part.Pattern n c) gs (v.Pattern x ∷ v.Patterns xs ∷ vs) s ms z sits (ys, u, q, d, h) = more_patterns_forth c d x xs gs vs z h
 goal_forth (g.MoreParts part.Variable n c) gs (v.Variable x ∷ v.Variables xs ∷ vs) s ms z sits (ys, u, q, d, h) = more_variables_forth c d x xs gs vs z h
-goal_forth (g.MoreParts part.Export n c) gs (v.Names es ∷ vs) s ms z sits (xs, u, q, d, h) = more_exports_forth c d es gs vs z h
+goal_forth (g.MoreParts part.Export n c) gs vs s ms z sits h = more_exports_next n c gs vs s ms z h
 goal_forth (g.MoreParts part.Constant n c) gs vs s ms z sits (q, d, h) = more_constants_forth c d gs vs s z h
 goal_forth (g.MoreParts part.Attribute n c) gs vs s ms z sits (q, d, h) = more_attributes_forth c d gs vs s z h
 goal_forth (g.MoreParts _ n c) gs _ s ms z sits h = absurd h
@@ -124,8 +150,7 @@ goal_forth (g.Alias n) gs (v.Pattern x ∷ vs) s ms z sits (inr (y, var, (q, is,
     word_forth (g.Alias n) gs (v.Pattern x ∷ vs) s w.Equals ms q z is refl (subst (λ (k : Pattern). Moves (aliased_by n gs k vs s) q z) (sym var) h)
 goal_forth (g.Alias n) gs _ s ms z sits (inr h) = absurd h
 goal_forth (g.Bindings n) gs vs s ms z sits (xs, u, q, d, h) = bindings_forth d gs vs z h
-goal_forth (g.Clauses n c) gs (v.Clauses bs ∷ vs) s ms z sits (cs, u, q, d, h) = clauses_forth c d bs gs vs z h
-goal_forth (g.Clauses n c) gs _ s ms z sits h = absurd h
+goal_forth (g.Clauses n c) gs vs s ms z sits h = clauses_next n c gs vs s ms z h
 goal_forth (g.Clause n inner) gs vs s ms z sits h = clause_forth n inner gs vs s ms z h
 goal_forth (g.ClauseRest n false) gs (v.Pattern x ∷ vs) s ms z sits (q, is, h) = word_forth (g.ClauseRest n false) gs (v.Pattern x ∷ vs) s w.When ms q z is refl h
 goal_forth (g.ClauseRest n true) gs (v.Pattern x ∷ vs) s ms z sits (inr (q, is, h)) = word_forth (g.ClauseRest n true) gs (v.Pattern x ∷ vs) s w.When ms q z is refl h
@@ -147,11 +172,9 @@ goal_forth g.InfoExportArity gs _ s ms z sits h = absurd h
 goal_forth g.FunctionArity gs (v.Atom a ∷ vs) s ms z sits (digits, (q, is, h)) = forth_at (mark g.FunctionArity) (goal_moved g.FunctionArity gs (v.Atom a ∷ vs) s) (arity digits) ms q z is refl h
 goal_forth g.FunctionArity gs _ s ms z sits h = absurd h
 goal_forth g.InfoArity gs vs s ms z sits (digits, (q, is, h)) = forth_at (mark g.InfoArity) (goal_moved g.InfoArity gs vs s) (arity digits) ms q z is refl (info_forth gs vs s digits q z h)
-goal_forth (g.Functions n) gs (v.Functions es ∷ vs) s ms z sits (fs, u, q, d, h) = functions_forth d es gs vs z h
-goal_forth (g.Functions n) gs _ s ms z sits h = absurd h
+goal_forth (g.Functions n) gs vs s ms z sits h = functions_next n gs vs s ms z h
 goal_forth (g.FunctionName n) gs vs s ms z sits (text, digits, q, d, h) = function_name_forth d gs vs s z h
-goal_forth (g.Definitions n) gs (v.Functions es ∷ vs) s ms z sits (fs, u, q, d, h) = definitions_forth d es gs vs z h
-goal_forth (g.Definitions n) gs _ s ms z sits h = absurd h
+goal_forth (g.Definitions n) gs vs s ms z sits h = definitions_next n gs vs s ms z h
 goal_forth (g.DefinitionName n) gs vs s ms z sits (text, digits, q, d, h) = definition_name_forth d gs vs s z h
 goal_forth (g.FunctionBody n) gs vs s ms z sits (xs, x, u, q, d, h) = body_forth d gs vs z h
 goal_forth (g.Module n) gs vs s ms z sits (y, q, d, h) = module_forth d gs vs z h

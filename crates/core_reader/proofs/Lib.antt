@@ -5,3 +5,5 @@ pub mod Forth
 pub mod ForthExprs
 pub mod ForthGoals
 pub mod Back
+pub mod BackExprs
+pub mod BackLists

@@ -88,7 +88,7 @@ MorePartsThen part.Attribute n c vs s ms k = (q : List Marked) × AreMoreAttribu
 MorePartsThen part.Expr n c vs s ms k = ⊥
 MorePartsThen part.Pattern n c vs s ms k = ⊥
 MorePartsThen part.Variable n c vs s ms k = ⊥
-MorePartsThen part.Export n c vs s ms k = ⊥
+MorePartsThen part.Export n c vs s ms k = WordThen (closing c) ms (λ q. k vs s q)
 
 abbrev pub HeadsThen : Part → ℕ → List Value → Tables → List Marked → Rest → Type 0
 HeadsThen part.Expr n (v.Exprs xs ∷ vs) s ms k = (x : Expr) × (u : Tables) × (q : List Marked) × IsList n s ms x u q × k (v.Expr (behind_heads xs x) ∷ vs) u q
@@ -155,15 +155,15 @@ ClauseNoteThen n inner vs s ms k = NoteThen n ms (λ q. k vs s q)
 
 abbrev pub ClausesThen : ℕ → Closer → List Value → Tables → List Marked → Rest → Type 0
 ClausesThen n c (v.Clauses bs ∷ vs) s ms k = (cs : List Clause) × (u : Tables) × (q : List Marked) × AreClauses n (closing c) s ms cs u q × k (v.Clauses (bs ++ cs) ∷ vs) u q
-ClausesThen n c vs s ms k = ⊥
+ClausesThen n c vs s ms k = WordThen (closing c) ms (λ q. k vs s q)
 
 abbrev pub FunctionsThen : ℕ → List Value → Tables → List Marked → Rest → Type 0
 FunctionsThen n (v.Functions es ∷ vs) s ms k = (fs : List Function) × (u : Tables) × (q : List Marked) × AreFunctions n s ms fs u q × k (v.Functions (es ++ fs) ∷ vs) u q
-FunctionsThen n vs s ms k = ⊥
+FunctionsThen n vs s ms k = WordThen w.In ms (λ q. k vs s q)
 
 abbrev pub DefinitionsThen : ℕ → List Value → Tables → List Marked → Rest → Type 0
 DefinitionsThen n (v.Functions es ∷ vs) s ms k = (fs : List Function) × (u : Tables) × (q : List Marked) × AreDefinitions n s ms fs u q × k (v.Functions (es ++ fs) ∷ vs) u q
-DefinitionsThen n vs s ms k = ⊥
+DefinitionsThen n vs s ms k = WordThen w.End ms (λ q. k vs s q)
 
 -- a name that is kept
 abbrev pub NameThen : ℕ → List Value → Tables → List Marked → Rest → Type 0
