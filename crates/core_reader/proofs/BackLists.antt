@@ -48,7 +48,7 @@ use Rattle.hy_core.specs.declared.tree.Expr.{Expr}
 use Rattle.hy_core.specs.declared.tree.Expr.TheVariants as e
 use Rattle.core_reader.specs.declared.state.Form.{Form}
 
-part_back : (k : Part) (n : ℕ) (gs : List Goal) (vs : List Value) (s : Tables) (token : Token) (q : List Marked) (z : Module) → Moves (part_begun k n gs vs s token) q z
+pub part_back : (k : Part) (n : ℕ) (gs : List Goal) (vs : List Value) (s : Tables) (token : Token) (q : List Marked) (z : Module) → Moves (part_begun k n gs vs s token) q z
     → Completes (g.Part k n ∷ gs) vs s (part_mark k n token ∷ q) z
 part_back part.Expr n gs vs s token q z h = expr_back n gs vs s token q z h
 part_back part.Pattern n gs vs s token q z h = pattern_back n gs vs s token q z h
@@ -77,7 +77,7 @@ parts_none part.Variable n c gs vs s q z h = ([], s, q, pats.none, h)
 parts_none part.Export n c gs vs s q z h = ([], s, q, mods.no_exports, h)
 parts_none part.Attribute n c gs vs s q z h = (q, notes.none, h)
 
-parts_back : (k : Part) (n : ℕ) (c : Closer) (gs : List Goal) (vs : List Value) (s : Tables) (token : Token) (q : List Marked) (z : Module) → Moves (goal_moved (g.Parts k n c) gs vs s token) q z
+pub parts_back : (k : Part) (n : ℕ) (c : Closer) (gs : List Goal) (vs : List Value) (s : Tables) (token : Token) (q : List Marked) (z : Module) → Moves (goal_moved (g.Parts k n c) gs vs s token) q z
     → Completes (g.Parts k n c ∷ gs) vs s (mark (g.Parts k n c) token ∷ q) z
 parts_back k n c gs vs s token q z h = by (if_back (is_word (closing c) token) _ _ q z h)
   where
@@ -114,7 +114,7 @@ more_one part.Export n c gs [] s q z h = absurd h
 more_one part.Export n c gs (value ∷ vs) s q z h = absurd h
 more_one _ n c gs _ s q z h = absurd h
 
-more_back : (k : Part) (n : ℕ) (c : Closer) (gs : List Goal) (vs : List Value) (s : Tables) (token : Token) (q : List Marked) (z : Module) → Moves (goal_moved (g.MoreParts k n c) gs vs s token) q z
+pub more_back : (k : Part) (n : ℕ) (c : Closer) (gs : List Goal) (vs : List Value) (s : Tables) (token : Token) (q : List Marked) (z : Module) → Moves (goal_moved (g.MoreParts k n c) gs vs s token) q z
     → Completes (g.MoreParts k n c ∷ gs) vs s (plain token ∷ q) z
 more_back k n c gs vs s token q z h = by (if_back (is_word (closing c) token) _ _ q z h)
   where
@@ -151,7 +151,7 @@ heads_from part.Export n gs (v.Names es ∷ vs) s ms z (xs, u, q, d, h) = absurd
 heads_from part.Export n gs _ s ms z h = absurd h
 heads_from part.Attribute n gs vs s ms z (key, q, r, d, value, h) = absurd h
 
-heads_back : (k : Part) (n : ℕ) (gs : List Goal) (vs : List Value) (s : Tables) (token : Token) (q : List Marked) (z : Module) → Moves (goal_moved (g.Heads k n) gs vs s token) q z
+pub heads_back : (k : Part) (n : ℕ) (gs : List Goal) (vs : List Value) (s : Tables) (token : Token) (q : List Marked) (z : Module) → Moves (goal_moved (g.Heads k n) gs vs s token) q z
     → Completes (g.Heads k n ∷ gs) vs s (mark (g.Heads k n) token ∷ q) z
 heads_back k n gs vs s token q z h = by (if_back (is_word w.CloseList token) _ _ q z h)
   where
@@ -194,7 +194,7 @@ ends_tail part.Constant n gs vs s q z (r, d, h) = (r, notes.tail d, h)
 ends_tail part.Variable n gs (v.Variable x ∷ v.Variables xs ∷ vs) s q z h = absurd h
 ends_tail _ n gs _ s q z h = absurd h
 
-ends_back : (k : Part) (n : ℕ) (gs : List Goal) (vs : List Value) (s : Tables) (token : Token) (q : List Marked) (z : Module) → Moves (goal_moved (g.MoreHeads k n) gs vs s token) q z
+pub ends_back : (k : Part) (n : ℕ) (gs : List Goal) (vs : List Value) (s : Tables) (token : Token) (q : List Marked) (z : Module) → Moves (goal_moved (g.MoreHeads k n) gs vs s token) q z
     → Completes (g.MoreHeads k n ∷ gs) vs s (plain token ∷ q) z
 ends_back k n gs vs s token q z h = by (if_back (is_word w.CloseList token) _ _ q z h)
   where
@@ -237,7 +237,7 @@ tail_other part.Export n gs (v.Names es ∷ vs) s m q z never (xs, u, r, d, (o, 
 tail_other part.Export n gs _ s m q z never h = absurd h
 tail_other part.Attribute n gs vs s m q z never (key, a, r, d, value, (o, is, h)) = absurd h
 
-tail_back : (k : Part) (n : ℕ) (gs : List Goal) (vs : List Value) (s : Tables) (token : Token) (q : List Marked) (z : Module) → Moves (goal_moved (g.Tail k n) gs vs s token) q z
+pub tail_back : (k : Part) (n : ℕ) (gs : List Goal) (vs : List Value) (s : Tables) (token : Token) (q : List Marked) (z : Module) → Moves (goal_moved (g.Tail k n) gs vs s token) q z
     → Completes (g.Tail k n ∷ gs) vs s (mark (g.Tail k n) token ∷ q) z
 tail_back k n gs vs s token q z h = by (if_back (is_word w.OpenList token) _ _ q z h)
   where

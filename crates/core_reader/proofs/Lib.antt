@@ -7,3 +7,4 @@ pub mod ForthGoals
 pub mod Back
 pub mod BackExprs
 pub mod BackLists
+pub mod BackGoals
