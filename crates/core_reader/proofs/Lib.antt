@@ -8,3 +8,5 @@ pub mod Back
 pub mod BackExprs
 pub mod BackLists
 pub mod BackGoals
+pub mod Fitting
+pub mod Living
