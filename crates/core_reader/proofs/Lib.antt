@@ -10,3 +10,4 @@ pub mod BackLists
 pub mod BackGoals
 pub mod Fitting
 pub mod Living
+pub mod Exact
