@@ -25,7 +25,8 @@ use Rattle.core_reader.specs.declared.state.Value.TheVariants as v
 use Rattle.core_reader.specs.declared.state.State.{State}
 use Rattle.hy_core.specs.Patterns as pats
 use Rattle.hy_core.specs.Patterns.{IsVariable, AreVariables, AreMoreVariables, BindsValues, IsNotBefore, IsAliased, IsPattern, ArePatterns, AreMorePatterns, IsPatternList, IsPatternEnd, IsPatternTail, string_pattern, joined_pattern}
-use Rattle.core_reader.specs.Machine.{on, closing, is_word, opened, added, closed, with_values, part_begun, constant_begun, variable_begun, pattern_begun, key_begun, value_begun, primop_begun, note_rest, goal_moved, parts_moved, tail_moved, part_mark, annotation_mark, value_mark, mark, behind_head_patterns}
+use Rattle.core_reader.specs.Machine.{on, closing, is_word, with_values, part_begun, constant_begun, variable_begun, pattern_begun, key_begun, value_begun, primop_begun, note_rest, goal_moved, parts_moved, tail_moved, part_mark, annotation_mark, value_mark, mark}
+use Rattle.core_reader.specs.Trees.{opened, added, closed, behind_head_patterns}
 use Rattle.core_reader.proofs.Tests.{word_at, not_word}
 use Rattle.core_reader.proofs.Meaning.{Completes}
 use Rattle.core_reader.proofs.Joins.{join_front_patterns}

@@ -29,7 +29,9 @@ use Rattle.hy_core.specs.Expressions as exprs
 use Rattle.hy_core.specs.Expressions.{named_by}
 use Rattle.hy_core.specs.Grammar as mods
 use Rattle.hy_core.specs.Grammar.{the_module_info, IsDropped}
-use Rattle.core_reader.specs.Machine.{state, closing, on, is_word, is_next, with_values, built, with_built, atom_built, clause_begun, function_begun, definition_begun, info_arity_moved, info_export_moved, aliased_by, behind_note, note_rest, goal_moved, annotation_mark, clause_mark, mark, settled}
+use Rattle.core_reader.specs.Machine.{state, closing, on, is_word, is_next, with_values, with_built, clause_begun, function_begun, definition_begun, info_arity_moved, info_export_moved, aliased_by, behind_note, note_rest, clause_rest, goal_moved, annotation_mark, clause_mark, mark, settled}
+use Rattle.core_reader.specs.Trees.{built, atom_built}
+use Rattle.core_reader.specs.Tops.{with_top, top_pattern}
 use Rattle.core_reader.proofs.Tests.{first_of, word_at, not_next, next_not}
 use Rattle.core_reader.proofs.Meaning.{Completes, Then, OnBuilt, DefinedThen, ExportedThen, AliasRestThen}
 use Rattle.core_reader.proofs.Forth.{Moves}
@@ -56,13 +58,16 @@ alias_from : (n : ℕ) (gs : List Goal) (x : Pattern) (vs : List Value) (s : Tab
 alias_from n gs (p.Var y) vs s q z h = inr (y, refl, (q, refl, h))
 alias_from n gs _ vs s q z h = absurd h
 
+alias_on : (n : ℕ) (gs : List Goal) (vs : List Value) (s : Tables) (q : List Marked) (z : Module) → Moves (with_top (top_pattern vs) (λ x ws. aliased_by n gs x ws s)) q z → Completes (g.Alias n ∷ gs) vs s (word w.Equals ∷ q) z
+alias_on n gs (v.Pattern x ∷ vs) s q z h = alias_from n gs x vs s q z h
+alias_on n gs _ s q z h = absurd h
+
 alias_back : (n : ℕ) (gs : List Goal) (vs : List Value) (s : Tables) (token : Token) (q : List Marked) (z : Module) → Moves (goal_moved (g.Alias n) gs vs s token) q z → Completes (g.Alias n ∷ gs) vs s (plain token ∷ q) z
-alias_back n gs (v.Pattern x ∷ vs) s token q z h = by (if_back (is_word w.Equals token) _ _ q z h)
+alias_back n gs vs s token q z h = by (if_back (is_word w.Equals token) _ _ q z h)
   where
-    by : ((is_word w.Equals token ≡ true) × Moves (aliased_by n gs x vs s) q z) ⊎ ((is_word w.Equals token ≡ false) × ⊥) → Completes (g.Alias n ∷ gs) (v.Pattern x ∷ vs) s (plain token ∷ q) z
-    by (inl (is, r)) = at_word (g.Alias n ∷ gs) (v.Pattern x ∷ vs) s w.Equals token q z (word_at w.Equals token is) (alias_from n gs x vs s q z r)
+    by : ((is_word w.Equals token ≡ true) × Moves (with_top (top_pattern vs) (λ x ws. aliased_by n gs x ws s)) q z) ⊎ ((is_word w.Equals token ≡ false) × ⊥) → Completes (g.Alias n ∷ gs) vs s (plain token ∷ q) z
+    by (inl (is, r)) = at_word (g.Alias n ∷ gs) vs s w.Equals token q z (word_at w.Equals token is) (alias_on n gs vs s q z r)
     by (inr (is, r)) = absurd r
-alias_back n gs _ s token q z h = absurd h
 
 -- ---- clauses
 
@@ -85,15 +90,20 @@ clauses_back n c gs vs s token q z h = by (if_back (is_word (closing c) token) _
     by (inl (is, r)) = rw is (at_word (g.Clauses n c ∷ gs) vs s (closing c) token q z (word_at (closing c) token is) (clauses_none n c gs vs s q z r))
     by (inr (is, r)) = rw is (clauses_from n c gs vs s (clause_mark n token ∷ q) z (clause_back n false (g.Clauses n c ∷ gs) vs s token q z r))
 
+rest_on : (n : ℕ) (inner : Bool) (gs : List Goal) (vs : List Value) (s : Tables) (q : List Marked) (z : Module)
+    → Moves (with_top (top_pattern vs) (λ x ws. Some (state (clause_rest n gs) (v.Patterns (x ∷ []) ∷ ws) s))) q z → Completes (g.ClauseRest n inner ∷ gs) vs s (word w.When ∷ q) z
+rest_on n false gs (v.Pattern x ∷ vs) s q z h = (q, refl, h)
+rest_on n true gs (v.Pattern x ∷ vs) s q z h = inr (q, refl, h)
+rest_on n inner gs _ s q z h = absurd h
+
 rest_back : (n : ℕ) (inner : Bool) (gs : List Goal) (vs : List Value) (s : Tables) (token : Token) (q : List Marked) (z : Module) → Moves (goal_moved (g.ClauseRest n inner) gs vs s token) q z
     → Completes (g.ClauseRest n inner ∷ gs) vs s (plain token ∷ q) z
-rest_back n false gs (v.Pattern x ∷ vs) s token q z h =
-    let r = on_back w.When token _ q z h in
-    at_word (g.ClauseRest n false ∷ gs) (v.Pattern x ∷ vs) s w.When token q z r.0 (q, refl, r.1)
-rest_back n true gs (v.Pattern x ∷ vs) s token q z h =
-    let r = on_back w.When token _ q z h in
-    at_word (g.ClauseRest n true ∷ gs) (v.Pattern x ∷ vs) s w.When token q z r.0 (inr (q, refl, r.1))
-rest_back n inner gs _ s token q z h = absurd h
+rest_back n inner gs vs s token q z h = by (if_back (is_word w.When token) _ _ q z h)
+  where
+    by : ((is_word w.When token ≡ true) × Moves (with_top (top_pattern vs) (λ x ws. Some (state (clause_rest n gs) (v.Patterns (x ∷ []) ∷ ws) s))) q z) ⊎ ((is_word w.When token ≡ false) × ⊥)
+        → Completes (g.ClauseRest n inner ∷ gs) vs s (plain token ∷ q) z
+    by (inl (is, r)) = at_word (g.ClauseRest n inner ∷ gs) vs s w.When token q z (word_at w.When token is) (rest_on n inner gs vs s q z r)
+    by (inr (is, r)) = absurd r
 
 behind_note_back : (n : ℕ) (inner : Bool) (gs : List Goal) (vs : List Value) (s : Tables) (ms r : List Marked) (z : Module) → IsNote n ms r → Completes (behind_note n inner gs vs) vs s r z
     → Completes (g.ClauseNote n inner ∷ gs) vs s ms z
@@ -175,6 +185,10 @@ definitions_back n gs vs s token q z h = by (if_back (is_word w.End token) _ _ q
     by (inl (is, r)) = subst (λ (o : Token). Completes (g.Definitions n ∷ gs) vs s (annotation_mark n o ∷ q) z) (sym (word_at w.End token is)) (definitions_none n gs vs s q z r)
     by (inr (is, r)) = definitions_from n gs vs s (annotation_mark n token ∷ q) z (definition_name_back n (g.Word w.Equals ∷ g.FunctionBody n ∷ g.Build f.Definition ∷ g.Definitions n ∷ gs) vs s token q z r)
 
+no_names : {A : Type 0} (digits : List ℕ) → ((leb (value digits) 1 ≡ true) × ⊥) ⊎ ((leb (value digits) 1 ≡ false) × ⊥) → A
+no_names digits (inl (is, r)) = absurd r
+no_names digits (inr (is, r)) = absurd r
+
 -- ---- every goal
 
 pub goal_back : (goal : Goal) (gs : List Goal) (vs : List Value) (s : Tables) (token : Token) (q : List Marked) (z : Module) → Moves (goal_moved goal gs vs s token) q z → Completes (goal ∷ gs) vs s (mark goal token ∷ q) z
@@ -187,7 +201,8 @@ goal_back (g.MoreHeads k n) gs vs s token q z h = ends_back k n gs vs s token q 
 goal_back (g.Tail k n) gs vs s token q z h = tail_back k n gs vs s token q z h
 goal_back g.NameOrAtom gs vs s token q z h = name_back gs vs s token q z h
 goal_back g.Arity gs (v.Atom a ∷ vs) s (t.Integer sign.Absent digits) q z h = (digits, (q, refl, h))
-goal_back g.Arity gs _ s _ q z h = absurd h
+goal_back g.Arity gs _ s (t.Integer sign.Absent digits) q z h = absurd h
+goal_back g.Arity gs vs s _ q z h = absurd h
 goal_back (g.Alias n) gs vs s token q z h = alias_back n gs vs s token q z h
 goal_back (g.Bindings n) gs vs s token q z h = bindings_back n gs vs s token q z h
 goal_back (g.Clauses n c) gs vs s token q z h = clauses_back n c gs vs s token q z h
@@ -199,11 +214,14 @@ goal_back (g.Key n) gs vs s token q z h = key_back n gs vs s token q z h
 goal_back (g.AttributeValue n) gs vs s token q z h = value_back n gs vs s token q z h
 goal_back (g.Primop n) gs vs s token q z h = primop_back n gs vs s token q z h
 goal_back g.ExportArity gs (v.Atom a ∷ v.Names es ∷ vs) s (t.Integer sign.Absent digits) q z h = (digits, (q, refl, h))
-goal_back g.ExportArity gs _ s _ q z h = absurd h
+goal_back g.ExportArity gs _ s (t.Integer sign.Absent digits) q z h = absurd h
+goal_back g.ExportArity gs vs s _ q z h = absurd h
 goal_back g.InfoExportArity gs (v.Names es ∷ vs) s (t.Integer sign.Absent digits) q z h = (digits, (q, refl, info_export_back gs es vs s digits q z h))
-goal_back g.InfoExportArity gs _ s _ q z h = absurd h
+goal_back g.InfoExportArity gs _ s (t.Integer sign.Absent digits) q z h = no_names digits (if_back (leb (value digits) 1) _ _ q z h)
+goal_back g.InfoExportArity gs vs s _ q z h = absurd h
 goal_back g.FunctionArity gs (v.Atom a ∷ vs) s (t.Integer sign.Absent digits) q z h = (digits, (q, refl, h))
-goal_back g.FunctionArity gs _ s _ q z h = absurd h
+goal_back g.FunctionArity gs _ s (t.Integer sign.Absent digits) q z h = absurd h
+goal_back g.FunctionArity gs vs s _ q z h = absurd h
 goal_back g.InfoArity gs vs s (t.Integer sign.Absent digits) q z h = (digits, (q, refl, info_back gs vs s digits q z h))
 goal_back g.InfoArity gs vs s _ q z h = absurd h
 goal_back (g.Functions n) gs vs s token q z h = functions_back n gs vs s token q z h

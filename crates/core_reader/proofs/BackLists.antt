@@ -30,7 +30,8 @@ use Rattle.hy_core.specs.Expressions as exprs
 use Rattle.hy_core.specs.Expressions.{named_by, IsTail}
 use Rattle.hy_core.specs.Grammar as mods
 use Rattle.hy_core.specs.Grammar.{the_module_info, IsDropped}
-use Rattle.core_reader.specs.Machine.{state, closing, on, is_word, is_next, opened, added, closed, with_values, built, with_built, atom_built, part_begun, info_arity_moved, info_export_moved, aliased_by, behind_note, goal_moved, part_mark, mark, settled, taken, taken_from, stepped, checked, behind_heads, behind_head_patterns}
+use Rattle.core_reader.specs.Machine.{state, closing, on, is_word, is_next, with_values, with_built, part_begun, info_arity_moved, info_export_moved, aliased_by, behind_note, goal_moved, part_mark, mark, settled, taken, taken_from, stepped, checked}
+use Rattle.core_reader.specs.Trees.{opened, added, closed, built, atom_built, behind_heads, behind_head_patterns}
 use Rattle.core_reader.proofs.Tests.{first_of, is_itself, word_at, not_word, not_next, next_not}
 use Rattle.core_reader.proofs.Joins.{join_front, join_front_patterns}
 use Rattle.core_reader.proofs.Meaning.{Completes, OnBuilt, DefinedThen, ExportedThen}

@@ -23,7 +23,7 @@ use Rattle.hy_core.specs.Marks.{Role, IsInRange, IsShallow, Fits as IsFitting, I
 use Rattle.hy_core.specs.Marks as marks
 use Rattle.hy_core.specs.Grammar.{IsModuleAt, IsModule, module_of}
 use Rattle.hy_core.specs.Reading.{Reads}
-use Rattle.core_reader.specs.Machine.{state, is_word, closing, in_range, fits, part_mark, mark, goal_moved, settled, checked, taken, taken_from, stepped, finished, finished_from, ended, Reading, ended_at, goes_on, run, start}
+use Rattle.core_reader.specs.Machine.{state, is_word, word_in, closing, in_range, fits, part_mark, mark, goal_moved, settled, checked, taken, taken_from, stepped, finished, finished_from, ended, Reading, ended_at, goes_on, run, start}
 use Rattle.core_reader.proofs.Tests.{first_of}
 use Rattle.core_reader.proofs.Meaning.{Completes, tables_of}
 use Rattle.core_reader.proofs.Forth.{Moves, Forth}
@@ -168,7 +168,7 @@ pub data View (r : State) (token : Token) : Type 0 where
   stuck : stepped r token ≡ Err k.Unexpected → View r token
   moves : (m : Marked) (next : State) → m.token ≡ token → stepped r token ≡ checked m (Some next) → ((q : List Marked) (z : Module) → Lang next q z → Lang r (m ∷ q) z) → FitsIn next → View r token
 
-view_taken : (r : State) (token : Token) (goal : Goal) (gs : List Goal) (vs : List Value) (s : Tables) → settled r.goals r.values r.tables (Some token) ≡ Some (state (goal ∷ gs) vs s)
+view_taken : (r : State) (token : Token) (goal : Goal) (gs : List Goal) (vs : List Value) (s : Tables) → settled r.goals r.values r.tables (word_in token) ≡ Some (state (goal ∷ gs) vs s)
     → (o : Option State) → goal_moved goal gs vs s token ≡ o → FitsState o → View r token
 view_taken r token goal gs vs s is None eq fit = stuck (ap (λ (o : Option State). taken_from o token) is ∙ ap (checked (mark goal token)) eq)
 view_taken r token goal gs vs s is (Some next) eq fit =
@@ -177,19 +177,19 @@ view_taken r token goal gs vs s is (Some next) eq fit =
     back : (q : List Marked) (z : Module) → Lang next q z → Lang r (mark goal token ∷ q) z
     back q z h =
         let after : Moves (goal_moved goal gs vs s token) q z = subst (λ (o : Option State). Moves o q z) (sym eq) h in
-        let here : settled r.goals r.values r.tables (Some (mark goal token).token) ≡ Some (state (goal ∷ gs) vs s) = subst (λ (o : Token). settled r.goals r.values r.tables (Some o) ≡ Some (state (goal ∷ gs) vs s)) (sym (mark_token goal token)) is in
+        let here : settled r.goals r.values r.tables (word_in (mark goal token).token) ≡ Some (state (goal ∷ gs) vs s) = subst (λ (o : Token). settled r.goals r.values r.tables (word_in o) ≡ Some (state (goal ∷ gs) vs s)) (sym (mark_token goal token)) is in
         settle_back r.goals r.values r.tables (mark goal token ∷ q) z (state (goal ∷ gs) vs s) here (goal_back goal gs vs s token q z after)
 
-view_rest : (r : State) (token : Token) (o : Option State) → settled r.goals r.values r.tables (Some token) ≡ o → FitsSome o → View r token
+view_rest : (r : State) (token : Token) (o : Option State) → settled r.goals r.values r.tables (word_in token) ≡ o → FitsSome o → View r token
 view_rest r token None is fit = absurd fit
 view_rest r token (Some rest) is fit = at rest.goals rest.values rest.tables is fit
   where
-    at : (gs : List Goal) (vs : List Value) (s : Tables) → settled r.goals r.values r.tables (Some token) ≡ Some (state gs vs s) → Fits gs vs → View r token
+    at : (gs : List Goal) (vs : List Value) (s : Tables) → settled r.goals r.values r.tables (word_in token) ≡ Some (state gs vs s) → Fits gs vs → View r token
     at [] vs s is fit = stuck (ap (λ (o : Option State). taken_from o token) is)
     at (goal ∷ gs) vs s is fit = view_taken r token goal gs vs s is (goal_moved goal gs vs s token) refl (goal_fits goal gs vs s token fit)
 
 pub view : (r : State) (token : Token) → FitsIn r → View r token
-view r token fit = view_rest r token (settled r.goals r.values r.tables (Some token)) refl (settle_fits r.goals r.values r.tables (Some token) fit)
+view r token fit = view_rest r token (settled r.goals r.values r.tables (word_in token)) refl (settle_fits r.goals r.values r.tables (word_in token) fit)
 
 -- the step that the grammar has next, where its token isn't wrong
 pub record Step (r : State) (token : Token) (q : List Marked) (z : Module) : Type 0 where

@@ -28,7 +28,8 @@ use Rattle.hy_core.specs.Expressions as exprs
 use Rattle.hy_core.specs.Expressions.{named_by}
 use Rattle.hy_core.specs.Grammar as mods
 use Rattle.hy_core.specs.Grammar.{IsDropped, the_module_info, module_of}
-use Rattle.core_reader.specs.Machine.{state, closing, on, is_word, is_next, is_info, opened, added, closed, with_values, built, with_built, atom_built, part_begun, expr_begun, pattern_begun, constant_begun, variable_begun, export_begun, key_begun, attribute_begun, value_begun, primop_begun, function_begun, definition_begun, body_begun, clause_begun, module_begun, info_arity_moved, info_export_moved, aliased_by, goal_moved, settled}
+use Rattle.core_reader.specs.Machine.{state, closing, on, is_word, is_next, is_info, with_values, with_built, part_begun, expr_begun, pattern_begun, constant_begun, variable_begun, export_begun, key_begun, attribute_begun, value_begun, primop_begun, function_begun, definition_begun, body_begun, clause_begun, module_begun, info_arity_moved, info_export_moved, aliased_by, goal_moved, settled}
+use Rattle.core_reader.specs.Trees.{opened, added, closed, built, atom_built}
 use Rattle.core_reader.proofs.Tests.{not_word}
 use Rattle.core_reader.proofs.Meaning.{Completes, OnBuilt}
 use Rattle.hy_core.specs.declared.tree.FunName.{FunName}
@@ -376,7 +377,7 @@ goal_fits (g.Clauses n c) gs (v.Clauses bs ∷ vs) s token h = fits_if (is_word 
 goal_fits (g.Clauses n c) gs _ s token h = absurd h
 goal_fits (g.Clause n inner) gs (v.Clauses bs ∷ vs) s token h = clause_fits n inner gs bs vs s token h
 goal_fits (g.Clause n inner) gs _ s token h = absurd h
-goal_fits (g.ClauseRest n inner) gs (v.Pattern x ∷ v.Clauses bs ∷ vs) s token h = fits_on (is_word w.When token) _ (λ y z o. h.0 _)
+goal_fits (g.ClauseRest n inner) gs (v.Pattern x ∷ v.Clauses bs ∷ vs) s token h = fits_if (is_word w.When token) _ _ (λ y z o. h.0 _) tt
 goal_fits (g.ClauseRest n inner) gs _ s token h = absurd h
 goal_fits (g.ClauseNote n inner) gs vs s token h = clause_note_fits n inner gs vs s token h
 goal_fits (g.Note n) gs vs s token h = fits_on (is_word w.NoteBar token) _ h
@@ -420,11 +421,11 @@ some_if : (b : Bool) (x y : Option State) → FitsSome x → FitsSome y → Fits
 some_if true x y h k = h
 some_if false x y h k = k
 
-some_built : (o : Option (List Value × Tables)) (gs : List Goal) (next : Option Token) → IfBuilt o (λ ws. Fits gs ws) → ((ws : List Value) (u : Tables) → Fits gs ws → FitsSome (settled gs ws u next)) → FitsSome (with_built o (λ ws u. settled gs ws u next))
+some_built : (o : Option (List Value × Tables)) (gs : List Goal) (next : Option Word) → IfBuilt o (λ ws. Fits gs ws) → ((ws : List Value) (u : Tables) → Fits gs ws → FitsSome (settled gs ws u next)) → FitsSome (with_built o (λ ws u. settled gs ws u next))
 some_built None gs next h further = h
 some_built (Some r) gs next h further = further r.0 r.1 h
 
-pub settle_fits : (gs : List Goal) (vs : List Value) (s : Tables) (next : Option Token) → Fits gs vs → FitsSome (settled gs vs s next)
+pub settle_fits : (gs : List Goal) (vs : List Value) (s : Tables) (next : Option Word) → Fits gs vs → FitsSome (settled gs vs s next)
 unfolding settled
 settle_fits [] vs s next h = h
 settle_fits (g.Build form ∷ gs) vs s next h = some_built (built form vs s) gs next (h s) (λ ws u k. settle_fits gs ws u next k)

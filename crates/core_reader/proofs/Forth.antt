@@ -25,7 +25,8 @@ use Rattle.core_reader.specs.declared.state.Value.TheVariants as v
 use Rattle.core_reader.specs.declared.state.State.{State}
 use Rattle.hy_core.specs.Patterns as pats
 use Rattle.hy_core.specs.Patterns.{IsVariable, AreVariables, AreMoreVariables, BindsValues, IsNotBefore, IsAliased, IsPattern, ArePatterns, AreMorePatterns, IsPatternList, IsPatternEnd, IsPatternTail}
-use Rattle.core_reader.specs.Machine.{closing, is_word, opened, part_begun, constant_begun, variable_begun, pattern_begun, key_begun, value_begun, primop_begun, note_rest, goal_moved, parts_moved, tail_moved, part_mark, annotation_mark, value_mark, mark, behind_head_patterns}
+use Rattle.core_reader.specs.Machine.{closing, is_word, part_begun, constant_begun, variable_begun, pattern_begun, key_begun, value_begun, primop_begun, note_rest, goal_moved, parts_moved, tail_moved, part_mark, annotation_mark, value_mark, mark}
+use Rattle.core_reader.specs.Trees.{opened, behind_head_patterns}
 use Rattle.core_reader.proofs.Tests.{Opens, is_closer, not_closing, is_itself, is_not}
 use Rattle.core_reader.proofs.Meaning.{Completes}
 use Rattle.core_reader.proofs.Joins.{join_front_patterns}

@@ -32,7 +32,8 @@ use Rattle.hy_core.specs.Expressions as exprs
 use Rattle.hy_core.specs.Expressions.{named_by, IsExpr, AreExprs, AreMoreExprs, IsList, IsListEnd, IsTail, IsClause, AreClauses, IsFunction, AreFunctions}
 use Rattle.hy_core.specs.Grammar as mods
 use Rattle.hy_core.specs.Grammar.{the_module_info, IsDropped, IsExport, AreExports, AreMoreExports, AreDefinitions, IsModuleAt}
-use Rattle.core_reader.specs.Machine.{closing, is_info, part_begun, expr_begun, function_begun, definition_begun, export_begun, clause_begun, body_begun, module_begun, goal_moved, parts_moved, annotation_mark, clause_mark, arity_mark, mark, behind_heads}
+use Rattle.core_reader.specs.Machine.{closing, is_info, part_begun, expr_begun, function_begun, definition_begun, export_begun, clause_begun, body_begun, module_begun, goal_moved, parts_moved, annotation_mark, clause_mark, arity_mark, mark}
+use Rattle.core_reader.specs.Trees.{behind_heads}
 use Rattle.core_reader.proofs.Tests.{Opens, is_closer, not_closing, is_itself, is_not}
 use Rattle.core_reader.proofs.Meaning.{Completes, Then, DefinedThen, ExportedThen, tables_of}
 use Rattle.core_reader.proofs.Joins.{join_front}

@@ -27,7 +27,8 @@ use Rattle.core_reader.specs.declared.state.State.{State}
 use Rattle.hy_core.specs.Patterns.{IsNotBefore}
 use Rattle.hy_core.specs.Expressions.{named_by}
 use Rattle.hy_core.specs.Grammar.{the_module_info, IsDropped}
-use Rattle.core_reader.specs.Machine.{state, closing, is_word, is_next, built, with_built, goal_moved, info_arity_moved, info_export_moved, aliased_by, behind_note, mark, settled, taken, taken_from, stepped, checked}
+use Rattle.core_reader.specs.Machine.{state, closing, is_word, word_in, is_next, with_built, goal_moved, info_arity_moved, info_export_moved, aliased_by, behind_note, mark, settled, taken, taken_from, stepped, checked}
+use Rattle.core_reader.specs.Trees.{built}
 use Rattle.core_reader.proofs.Tests.{first_of, is_itself, word_at, not_next, next_not}
 use Rattle.core_reader.proofs.Meaning.{Completes, OnBuilt, DefinedThen, ExportedThen}
 use Rattle.core_reader.proofs.Forth.{Moves, Forth, forth_at, constant_forth, constants_forth, more_constants_forth, constant_list_forth, constant_end_forth, constant_tail_forth, note_forth, key_forth, primop_forth, value_forth, attribute_forth, attributes_forth, more_attributes_forth, variable_forth, variables_forth, more_variables_forth, bindings_forth, pattern_forth, patterns_forth, more_patterns_forth, pattern_list_forth, pattern_end_forth, pattern_tail_forth}
@@ -39,7 +40,7 @@ use Rattle.hy_core.specs.declared.tree.Expr.TheVariants as e
 use Rattle.core_reader.specs.declared.state.Form.{Form}
 
 -- the goal takes the first token: nothing is to be built, and it isn't passed over
-abbrev pub Sits : Goal → Option Token → Type 0
+abbrev pub Sits : Goal → Option Word → Type 0
 Sits (g.Build form) o = ⊥
 Sits g.NameOrAtom o = is_next w.Slash o ≡ true
 Sits (g.Alias n) o = is_next w.Equals o ≡ true
@@ -183,7 +184,7 @@ goal_forth (g.Build form) gs vs s ms z sits h = absurd sits
 
 -- ---- what is built and passed over before
 
-abbrev pub SitsOn : List Goal → Option Token → Type 0
+abbrev pub SitsOn : List Goal → Option Word → Type 0
 SitsOn [] o = Unit {0}
 SitsOn (goal ∷ gs) o = Sits goal o
 
@@ -245,7 +246,7 @@ step_forth r m q z h =
     let first = settle_forth r.goals r.values r.tables (m ∷ q) z h in
     at first.rest.goals first.rest.values first.rest.tables first.is first.sits first.completes
   where
-    at : (gs : List Goal) (vs : List Value) (s : Tables) → settled r.goals r.values r.tables (Some m.token) ≡ Some (state gs vs s) → SitsOn gs (Some m.token) → Completes gs vs s (m ∷ q) z → Next r m q z
+    at : (gs : List Goal) (vs : List Value) (s : Tables) → settled r.goals r.values r.tables (word_in m.token) ≡ Some (state gs vs s) → SitsOn gs (word_in m.token) → Completes gs vs s (m ∷ q) z → Next r m q z
     at [] vs s is sits c = absurd (let bad : m ∷ q ≡ [] = c.0 in cc)
     at (goal ∷ gs) vs s is sits c =
         let forth = goal_forth goal gs vs s (m ∷ q) z sits c in

@@ -1,3 +1,5 @@
+pub mod Digits
+pub mod TokenLoop
 pub mod Tests
 pub mod Meaning
 pub mod Joins

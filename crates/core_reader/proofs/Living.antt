@@ -28,7 +28,8 @@ use Rattle.hy_core.specs.Expressions as exprs
 use Rattle.hy_core.specs.Expressions.{named_by, clause_of, IsExpr, IsClause}
 use Rattle.hy_core.specs.Grammar as mods
 use Rattle.hy_core.specs.Grammar.{IsDropped, the_module_info, module_of}
-use Rattle.core_reader.specs.Machine.{closing, built}
+use Rattle.core_reader.specs.Machine.{closing}
+use Rattle.core_reader.specs.Trees.{built}
 use Rattle.core_reader.proofs.Tests.{not_word}
 use Rattle.core_reader.proofs.Meaning.{Completes, OnBuilt, ClauseWhenThen}
 use Rattle.core_reader.proofs.Fitting.{Quiet, IfBuilt, Fits}

@@ -6,7 +6,8 @@ use Rattle.hy_core.specs.Annotations.{IsConstant, AreConstants, AreMoreConstants
 use Rattle.hy_core.specs.Patterns.{IsVariable, AreVariables, AreMoreVariables, BindsValues, IsNotBefore, IsPattern, ArePatterns, AreMorePatterns, IsPatternList, IsPatternEnd, IsPatternTail}
 use Rattle.hy_core.specs.Expressions.{named_by, IsExpr, AreExprs, AreMoreExprs, IsList, IsListEnd, IsTail, IsClause, AreClauses, IsFunction, AreFunctions}
 use Rattle.hy_core.specs.Grammar.{the_module_info, IsDropped, IsExport, AreExports, AreMoreExports, AreDefinitions, IsModuleAt}
-use Rattle.core_reader.specs.Machine.{behind_heads, behind_head_patterns, closing, built, finished}
+use Rattle.core_reader.specs.Machine.{closing, finished}
+use Rattle.core_reader.specs.Trees.{behind_heads, behind_head_patterns, built}
 use Rattle.hy_core.specs.declared.token.Word.{Word}
 use Rattle.hy_core.specs.declared.token.Word.TheVariants as w
 use Rattle.hy_core.specs.declared.token.Token.TheVariants as t

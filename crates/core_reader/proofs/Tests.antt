@@ -3,7 +3,7 @@ use Rattle.std.proofs.Common.{◌≡◌, ℕ, Bool, true, false, eqb, List, [], 
 use Rattle.std.proofs.lemmas.Bool.{eqb-true}
 use Rattle.hy_core.specs.Marks.{Marked, word}
 use Rattle.hy_core.specs.Patterns.{IsNotBefore}
-use Rattle.core_reader.specs.Machine.{code, is_word, is_next, closing}
+use Rattle.core_reader.specs.Machine.{code, is_word, word_in, is_next, closing}
 use Rattle.hy_core.specs.declared.token.Word.{Word}
 use Rattle.hy_core.specs.declared.token.Word.TheVariants as w
 use Rattle.hy_core.specs.declared.token.Token.{Token}
@@ -103,14 +103,18 @@ not_closing c token h = is_not (closing c) token (λ is. let bad : true ≡ fals
 
 -- ---- the next token
 
-abbrev pub first_of : List Marked → Option Token
+abbrev pub first_of : List Marked → Option Word
 first_of [] = None
-first_of (m ∷ ms) = Some m.token
+first_of (m ∷ ms) = word_in m.token
+
+next_is : (k : Word) (token : Token) → is_next k (word_in token) ≡ is_word k token
+next_is k (t.Word found) = refl
+next_is k _ = refl
 
 pub not_next : (k : Word) (ms : List Marked) → IsNotBefore k ms → is_next k (first_of ms) ≡ false
 not_next k [] h = refl
-not_next k (m ∷ ms) h = is_not k m.token h
+not_next k (m ∷ ms) h = next_is k m.token ∙ is_not k m.token h
 
 pub next_not : (k : Word) (ms : List Marked) → is_next k (first_of ms) ≡ false → IsNotBefore k ms
 next_not k [] h = tt
-next_not k (m ∷ ms) h = not_word k m.token h
+next_not k (m ∷ ms) h = not_word k m.token (sym (next_is k m.token) ∙ h)

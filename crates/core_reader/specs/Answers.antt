@@ -1,8 +1,10 @@
 -- What the reader answers.
-use Rattle.std.specs.Prelude.{◌≡◌, ℕ, Result, Ok, Err}
+use Rattle.std.specs.Prelude.{◌≡◌, ℕ, List, [], ◌∷◌, Option, Some, None, Result, Ok, Err}
 use Rattle.hy_core.specs.declared.refusal.RefusalKind.{RefusalKind}
 use Rattle.hy_core.specs.declared.tree.Module.{Module}
-use Rattle.core_reader.specs.Machine.{Reading}
+use Rattle.core_reader.specs.Machine.{Reading, state}
+use Rattle.core_reader.specs.declared.state.Goal.{Goal}
+use Rattle.hy_core.specs.declared.refusal.RefusalKind.TheVariants.{Unexpected}
 use Rattle.core_reader.specs.declared.state.State.{State}
 use Rattle.core_reader.specs.declared.answer.StepFault.{StepFault}
 use Rattle.core_reader.specs.declared.answer.StepFault.TheVariants as steps
@@ -39,3 +41,10 @@ abbrev pub GivesReading : Result Module TokenAnswer → Reading → Type 0
 GivesReading (Ok z) o = o ≡ Ok z
 GivesReading (Err (tokens.Refused r)) o = o ≡ Err (r.kind, r.index)
 GivesReading (Err tokens.Memory) o = Unit {0}
+
+-- the goal that takes the next token, above those that are left; or that none is left, or why there is none
+abbrev pub GivesGoal : Result (Option Goal) StepFault → State → Option State → Type 0
+GivesGoal (Ok (Some goal)) r o = o ≡ Some (state (goal ∷ r.goals) r.values r.tables)
+GivesGoal (Ok None) r o = o ≡ Some (state [] r.values r.tables)
+GivesGoal (Err (steps.Refused kind)) r o = (kind ≡ Unexpected) × (o ≡ None)
+GivesGoal (Err steps.Memory) r o = Unit {0}

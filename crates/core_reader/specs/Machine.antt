@@ -3,8 +3,10 @@ use Rattle.std.specs.Prelude.{Bool, true, false, ◌==◌, ℕ, suc, ◌+◌, �
 use Rattle.std.specs.Str.{bytes_eq}
 use Rattle.hy_core.specs.Marks.{Marked, Role, Value as OfValue, Arity as OfArity, at, constant, plain, value, number}
 use Rattle.hy_core.specs.Numbering.{atom_number, with_atom, variable_number, with_variable, no_tables}
-use Rattle.hy_core.specs.Patterns.{string_pattern, joined_pattern}
-use Rattle.hy_core.specs.Expressions.{named_by, function, clause_of, string_expr, joined}
+use Rattle.hy_core.specs.Patterns.{string_pattern}
+use Rattle.hy_core.specs.Expressions.{named_by, string_expr}
+use Rattle.core_reader.specs.Tops.{with_top, top_pattern, top_functions, top_names, top_atom, has_pattern}
+use Rattle.core_reader.specs.Trees.{built, opened, added, closed, atom_built, name_built, function_name_built, name_added, export_built, names_kept}
 use Rattle.hy_core.specs.Grammar.{the_module_info, module_of}
 use Rattle.hy_core.specs.declared.token.Word.{Word}
 use Rattle.hy_core.specs.declared.token.Word.TheVariants as w
@@ -77,9 +79,14 @@ abbrev pub is_word : Word → Token → Bool
 is_word word (t.Word found) = code found == code word
 is_word word _ = false
 
--- the next token, where there is one, is this word
-abbrev pub is_next : Word → Option Token → Bool
-is_next word (Some token) = is_word word token
+-- the word that a token is
+abbrev pub word_in : Token → Option Word
+word_in (t.Word k) = Some k
+word_in _ = None
+
+-- the next token is this word
+abbrev pub is_next : Word → Option Word → Bool
+is_next word (Some found) = code found == code word
 is_next word None = false
 
 abbrev pub closing : Closer → Word
@@ -93,70 +100,6 @@ closing closer.Receive = w.After
 abbrev pub on : {A : Type 0} → Bool → A → Option A
 on true a = Some a
 on false a = None
-
--- ---- trees from their parts
-
--- a list notation, whose heads stand behind these
-abbrev pub behind_heads : List Expr → Expr → Expr
-behind_heads [] x = x
-behind_heads (h ∷ hs) x = joined (h ∷ hs) x
-
-abbrev pub behind_head_patterns : List Pattern → Pattern → Pattern
-behind_head_patterns [] x = x
-behind_head_patterns (h ∷ hs) x = joined_pattern (h ∷ hs) x
-
-abbrev pub built : Form → List Value → Tables → Option (List Value × Tables)
-built f.OneVariable (v.Variable x ∷ vs) s = Some (v.Variables (x ∷ []) ∷ vs, s)
-built f.Tuple (v.Exprs xs ∷ vs) s = Some (v.Expr (e.Tuple 0 xs) ∷ vs, s)
-built f.Values (v.Exprs xs ∷ vs) s = Some (v.Expr (e.Values xs) ∷ vs, s)
-built f.Let (v.Expr y ∷ v.Expr x ∷ v.Variables xs ∷ vs) s = Some (v.Expr (e.Let xs x y) ∷ vs, s)
-built f.Do (v.Expr y ∷ v.Expr x ∷ vs) s = Some (v.Expr (e.Do x y) ∷ vs, s)
-built f.NoClauses vs s = Some (v.Clauses [] ∷ vs, s)
-built f.Case (v.Clauses cs ∷ v.Expr x ∷ vs) s = Some (v.Expr (e.Case x cs) ∷ vs, s)
-built f.Letrec (v.Expr x ∷ v.Functions fs ∷ vs) s = Some (v.Expr (e.Letrec fs x) ∷ vs, s)
-built f.Apply (v.Exprs xs ∷ v.Expr x ∷ vs) s = Some (v.Expr (e.Apply x xs) ∷ vs, s)
-built f.Call (v.Exprs xs ∷ v.Expr y ∷ v.Expr x ∷ vs) s = Some (v.Expr (e.Call x y xs) ∷ vs, s)
-built f.Primop (v.Exprs xs ∷ v.Atom k ∷ vs) s = Some (v.Expr (e.Primop k xs) ∷ vs, s)
-built f.Receive (v.Expr y ∷ v.Expr x ∷ v.Clauses cs ∷ vs) s = Some (v.Expr (e.Receive cs x y) ∷ vs, s)
-built f.Try (v.Expr z ∷ v.Variables ys ∷ v.Expr y ∷ v.Variables xs ∷ v.Expr x ∷ vs) s = Some (v.Expr (e.Try x xs y ys z) ∷ vs, s)
-built f.Catch (v.Expr x ∷ vs) s = Some (v.Expr (e.Catch x) ∷ vs, s)
-built f.Fun (v.Expr x ∷ v.Variables xs ∷ vs) s = Some (v.Expr (e.Fun xs x) ∷ vs, s)
-built f.Clause (v.Expr y ∷ v.Expr x ∷ v.Patterns ps ∷ v.Clauses cs ∷ vs) s = Some (v.Clauses (cs ++ clause_of ps x y ∷ []) ∷ vs, s)
-built f.Function (v.Expr x ∷ v.Variables xs ∷ v.Name name ∷ v.Functions fs ∷ vs) s = Some (v.Functions (fs ++ function name xs x ∷ []) ∷ vs, s)
-built f.NoFunctions vs s = Some (v.Functions [] ∷ vs, s)
-built f.Definition (v.Expr x ∷ v.Variables xs ∷ v.Name name ∷ v.Functions fs ∷ vs) s = Some (v.Functions (fs ++ function name xs x ∷ []) ∷ vs, s)
-built f.Definition (v.Expr x ∷ v.Variables xs ∷ v.Dropped before ∷ v.Functions fs ∷ vs) s = Some (v.Functions fs ∷ vs, before)
-built (f.Join part.Expr) (v.Expr x ∷ v.Exprs xs ∷ vs) s = Some (v.Expr (behind_heads xs x) ∷ vs, s)
-built (f.Join part.Pattern) (v.Pattern x ∷ v.Patterns xs ∷ vs) s = Some (v.Pattern (behind_head_patterns xs x) ∷ vs, s)
-built (f.Join part.Constant) vs s = Some (vs, s)
-built f.PatternTuple (v.Patterns xs ∷ vs) s = Some (v.Pattern (p.Tuple xs) ∷ vs, s)
-built f.Alias (v.Pattern x ∷ v.Variable y ∷ vs) s = Some (v.Pattern (p.Alias y x) ∷ vs, s)
-built _ vs s = None
-
--- the list of parts that is empty
-abbrev pub opened : Part → List Value → List Value
-opened part.Expr vs = v.Exprs [] ∷ vs
-opened part.Pattern vs = v.Patterns [] ∷ vs
-opened part.Variable vs = v.Variables [] ∷ vs
-opened part.Export vs = v.Names [] ∷ vs
-opened _ vs = vs
-
--- a part behind those before it; an export stands there already, and nothing is kept of constants and attributes
-abbrev pub added : Part → List Value → Option (List Value)
-added part.Expr (v.Expr x ∷ v.Exprs xs ∷ vs) = Some (v.Exprs (xs ++ x ∷ []) ∷ vs)
-added part.Pattern (v.Pattern x ∷ v.Patterns xs ∷ vs) = Some (v.Patterns (xs ++ x ∷ []) ∷ vs)
-added part.Variable (v.Variable x ∷ v.Variables xs ∷ vs) = Some (v.Variables (xs ++ x ∷ []) ∷ vs)
-added part.Expr _ = None
-added part.Pattern _ = None
-added part.Variable _ = None
-added _ vs = Some vs
-
--- the list notation of the heads so far, closed by its bracket
-abbrev pub closed : Part → List Value → Option (List Value)
-closed part.Expr (v.Exprs xs ∷ vs) = Some (v.Expr (behind_heads xs e.Nil) ∷ vs)
-closed part.Pattern (v.Patterns xs ∷ vs) = Some (v.Pattern (behind_head_patterns xs p.Nil) ∷ vs)
-closed part.Constant vs = Some vs
-closed _ vs = None
 
 -- ---- the first token of a part, with what follows the part below it on the stack of goals
 
@@ -324,13 +267,18 @@ tail_moved k n gs vs s token =
     if is_word w.OpenList token then Some (state (g.Heads k n ∷ g.Word w.CloseList ∷ gs) vs s)
     else part_begun k (n + 1) (g.Word w.CloseList ∷ g.Build (f.Join k) ∷ gs) vs s token
 
+-- where the values are such
+abbrev pub on_values : List Goal → Tables → Option (List Value) → Option State
+on_values gs s None = None
+on_values gs s (Some vs) = Some (state gs vs s)
+
 -- the arity of a function's name whose atom is on top
 abbrev pub arity_moved : List Goal → List Value → Tables → Token → Option State
-arity_moved gs (v.Atom k ∷ vs) s (t.Integer sign.Absent digits) = Some (state gs (v.Expr (e.Name (named_by k digits)) ∷ vs) s)
+arity_moved gs vs s (t.Integer sign.Absent digits) = on_values gs s (name_built (value digits) vs)
 arity_moved gs vs s token = None
 
 abbrev pub function_arity_moved : List Goal → List Value → Tables → Token → Option State
-function_arity_moved gs (v.Atom k ∷ vs) s (t.Integer sign.Absent digits) = Some (state gs (v.Name (named_by k digits) ∷ vs) s)
+function_arity_moved gs vs s (t.Integer sign.Absent digits) = on_values gs s (function_name_built (value digits) vs)
 function_arity_moved gs vs s token = None
 
 abbrev pub info_arity_moved : List Goal → List Value → Tables → Token → Option State
@@ -340,13 +288,13 @@ info_arity_moved gs vs s (t.Integer sign.Absent digits) =
 info_arity_moved gs vs s token = None
 
 abbrev pub export_arity_moved : List Goal → List Value → Tables → Token → Option State
-export_arity_moved gs (v.Atom k ∷ v.Names names ∷ vs) s (t.Integer sign.Absent digits) = Some (state gs (v.Names (names ++ named_by k digits ∷ []) ∷ vs) s)
+export_arity_moved gs vs s (t.Integer sign.Absent digits) = on_values gs s (export_built (value digits) vs)
 export_arity_moved gs vs s token = None
 
 abbrev pub info_export_moved : List Goal → List Value → Tables → Token → Option State
-info_export_moved gs (v.Names names ∷ vs) s (t.Integer sign.Absent digits) =
-    if nat_le (value digits) 1 then Some (state gs (v.Names names ∷ vs) s)
-    else Some (state gs (v.Names (names ++ named_by (atom_number s the_module_info) digits ∷ []) ∷ vs) (with_atom s the_module_info))
+info_export_moved gs vs s (t.Integer sign.Absent digits) =
+    if nat_le (value digits) 1 then on_values gs s (names_kept vs)
+    else on_values gs (with_atom s the_module_info) (name_added (named_by (atom_number s the_module_info) digits) vs)
 info_export_moved gs vs s token = None
 
 -- behind a pattern, the rest of an alias
@@ -355,8 +303,7 @@ aliased_by n gs (p.Var y) vs s = Some (state (g.Part part.Pattern (n + 1) ∷ g.
 aliased_by n gs _ vs s = None
 
 abbrev pub alias_moved : ℕ → List Goal → List Value → Tables → Token → Option State
-alias_moved n gs (v.Pattern x ∷ vs) s token = if is_word w.Equals token then aliased_by n gs x vs s else None
-alias_moved n gs vs s token = None
+alias_moved n gs vs s token = if is_word w.Equals token then with_top (top_pattern vs) (λ x ws. aliased_by n gs x ws s) else None
 
 abbrev pub bindings_moved : ℕ → List Goal → List Value → Tables → Token → Option State
 bindings_moved n gs vs s token =
@@ -369,13 +316,11 @@ clauses_moved n c gs vs s token =
     else clause_begun n false (g.Clauses n c ∷ gs) vs s token
 
 abbrev pub clause_rest_moved : ℕ → List Goal → List Value → Tables → Token → Option State
-clause_rest_moved n gs (v.Pattern x ∷ vs) s token = on (is_word w.When token) (state (clause_rest n gs) (v.Patterns (x ∷ []) ∷ vs) s)
-clause_rest_moved n gs vs s token = None
+clause_rest_moved n gs vs s token = if is_word w.When token then with_top (top_pattern vs) (λ x ws. Some (state (clause_rest n gs) (v.Patterns (x ∷ []) ∷ ws) s)) else None
 
 -- behind the annotation round a pattern, the clause goes on; behind that round a clause, nothing does
 abbrev pub behind_note : ℕ → Bool → List Goal → List Value → List Goal
-behind_note n inner gs (v.Pattern x ∷ vs) = g.Alias n ∷ g.ClauseRest n inner ∷ gs
-behind_note n inner gs vs = gs
+behind_note n inner gs vs = if has_pattern vs then g.Alias n ∷ g.ClauseRest n inner ∷ gs else gs
 
 abbrev pub functions_moved : ℕ → List Goal → List Value → Tables → Token → Option State
 functions_moved n gs vs s token =
@@ -426,6 +371,9 @@ goal_moved g.ModuleName gs vs s token = name_moved gs vs s token
 goal_moved (g.Build form) gs vs s token = None
 
 -- ---- marks
+
+abbrev pub open_list : Token
+open_list = t.Word w.OpenList
 
 -- what can't be annotated has no level, but its annotation has
 abbrev pub annotation_mark : ℕ → Token → Marked
@@ -493,13 +441,8 @@ abbrev pub with_built : Option (List Value × Tables) → (List Value → Tables
 with_built None go = None
 with_built (Some r) go = go r.0 r.1
 
--- the atom on top is an expression
-abbrev pub atom_built : List Value → Option (List Value)
-atom_built (v.Atom k ∷ vs) = Some (v.Expr (e.Atom k) ∷ vs)
-atom_built vs = None
-
--- What takes the next token: trees whose parts are read are built, and goals that may be nothing are passed over where the token doesn't go on with them.
-unfoldable pub settled : List Goal → List Value → Tables → Option Token → Option State
+-- What takes the next token, which may be a word: trees whose parts are read are built, and goals that may be nothing are passed over where the word doesn't go on with them.
+unfoldable pub settled : List Goal → List Value → Tables → Option Word → Option State
 settled [] vs s next = Some (state [] vs s)
 settled (g.Build form ∷ gs) vs s next = with_built (built form vs s) (λ ws u. settled gs ws u next)
 settled (g.NameOrAtom ∷ gs) vs s next =
@@ -518,11 +461,19 @@ taken_from None token = Err Unexpected
 taken_from (Some r) token = taken r.goals r.values r.tables token
 
 abbrev pub stepped : State → Token → Result State RefusalKind
-stepped r token = taken_from (settled r.goals r.values r.tables (Some token)) token
+stepped r token = taken_from (settled r.goals r.values r.tables (word_in token)) token
+
+-- the module of these parts, where nothing else was read
+abbrev pub alone : Module → List Value → Option Module
+alone z [] = Some z
+alone z vs = None
 
 -- the module whose parts are read
+abbrev pub module_built : List Value → Tables → Option Module
+module_built vs s = with_top (top_functions vs) (λ fs ws. with_top (top_names ws) (λ names us. with_top (top_atom us) (λ name os. alone (module_of name names fs s) os)))
+
 abbrev pub finished : List Goal → List Value → Tables → Option Module
-finished [] (v.Functions fs ∷ v.Names names ∷ v.Atom name ∷ []) s = Some (module_of name names fs s)
+finished [] vs s = module_built vs s
 finished gs vs s = None
 
 abbrev pub finished_from : Option State → Option Module

@@ -60,3 +60,6 @@ pub enum TokenAnswer {
     /// Want of memory.
     Memory,
 }
+
+/// A token that no module has there.
+pub const UNEXPECTED: StepFault = StepFault::Refused(RefusalKind::Unexpected);

@@ -2,9 +2,30 @@
 #![tactic(auto)]
 
 mod answer;
+mod arity;
+mod behind;
+mod build;
+mod clause_forms;
+mod constant;
+mod expr;
+mod expr_forms;
+mod join;
+mod level;
+mod list;
+mod module;
+mod named;
+mod names;
+mod number;
+mod parts;
+mod pattern;
+mod pop;
 mod read;
+mod run;
+mod settle;
+mod several;
 mod stack;
 mod state;
+mod step;
 
 pub use answer::{ReadAnswer, Refused};
 pub use read::read_module;

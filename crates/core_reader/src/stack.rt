@@ -1,4 +1,4 @@
-ghost use Rattle.std.specs.Prelude.{◌≡◌, [], ◌∷◌, reverse, OnOk, OnErr, MatchOption, IfOk};
+ghost use Rattle.std.specs.Prelude.{◌≡◌, [], ◌∷◌, ◌++◌, reverse, OnOk, OnErr, MatchOption, IfOk};
 
 use std::alloc::{AllocError, Global};
 use std::marker::Model;
@@ -54,6 +54,18 @@ impl<T: Drop> Stack<T> {
 }
 
 impl<T: Copy> Stack<T> {
+    /// Puts these items on top, the first of them uppermost.
+    pub fn push_all(&mut self, items: &[T]) -> Result<(), AllocError>
+        ensures { OnOk result (self.new ≡ items.now ++ self.old) }
+    {
+        let mut left = items.len();
+        while left > 0 {
+            left -= 1;
+            self.items.push(items[left])?;
+        }
+        Ok(())
+    }
+
     /// The stack of these items, the top last.
     pub fn from_slice(alloc: Global, items: &[T]) -> Result<Stack<T>, AllocError>
         ensures { IfOk result (λ stack. stack ≡ reverse items.now) }

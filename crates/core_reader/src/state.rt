@@ -145,6 +145,13 @@ pub enum Value {
     Atom(u32),
 }
 
+/// What stands for the name of a definition: the name, or the tables before a dropped one.
+#[derive(Drop)]
+pub enum Head {
+    Name(FunName),
+    Dropped(Tables),
+}
+
 /// What is still to be read, the next on top, and what was read.
 #[derive(Drop)]
 pub struct State {
