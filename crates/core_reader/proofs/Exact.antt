@@ -29,8 +29,8 @@ use Rattle.core_reader.proofs.Meaning.{Completes, tables_of}
 use Rattle.core_reader.proofs.Forth.{Moves, Forth}
 use Rattle.core_reader.proofs.ForthGoals.{SitsOn, settle_forth, goal_forth, Next, step_forth}
 use Rattle.core_reader.proofs.BackGoals.{goal_back, settle_back}
-use Rattle.core_reader.proofs.Fitting.{Fits, FitsState, FitsSome, goal_fits, settle_fits}
-use Rattle.core_reader.proofs.Living.{alive}
+use Rattle.core_reader.proofs.Fitting.{Fits, FitsOrDone, FitsState, FitsSome, goal_fits, settle_fits, left_over}
+use Rattle.core_reader.proofs.Living.{alive_or}
 use Rattle.hy_core.specs.declared.refusal.RefusalKind.{RefusalKind}
 use Rattle.hy_core.specs.declared.refusal.RefusalKind.TheVariants as k
 
@@ -39,7 +39,7 @@ abbrev pub Lang : State → List Marked → Module → Type 0
 Lang r ms z = Completes r.goals r.values r.tables ms z
 
 abbrev pub FitsIn : State → Type 0
-FitsIn r = Fits r.goals r.values
+FitsIn r = FitsOrDone r.goals r.values
 
 -- ---- levels and ranges
 
@@ -90,10 +90,10 @@ shallow_test n le = by (deep_tells n)
 checked_sound : (m : Marked) (r : State) → IsSound m → checked m (Some r) ≡ Ok r
 checked_sound m r sound = rw (shallow_test m.level sound.0, is_fits m.role m.token sound.1) refl
 
-checked_deep : (m : Marked) (r : State) → 400 < m.level → checked m (Some r) ≡ Err k.TooDeep
+pub checked_deep : (m : Marked) (r : State) → 400 < m.level → checked m (Some r) ≡ Err k.TooDeep
 checked_deep m r deep = rw (lt-ltb 400 m.level deep) refl
 
-checked_range : (m : Marked) (r : State) → IsShallow m → (IsFitting m.role m.token → ⊥) → checked m (Some r) ≡ Err k.NumberRange
+pub checked_range : (m : Marked) (r : State) → IsShallow m → (IsFitting m.role m.token → ⊥) → checked m (Some r) ≡ Err k.NumberRange
 checked_range m r shallow never = rw (shallow_test m.level shallow, fits_not m.role m.token never) refl
 
 -- what a move that is looked at comes to
@@ -184,7 +184,7 @@ view_rest : (r : State) (token : Token) (o : Option State) → settled r.goals r
 view_rest r token None is fit = absurd fit
 view_rest r token (Some rest) is fit = at rest.goals rest.values rest.tables is fit
   where
-    at : (gs : List Goal) (vs : List Value) (s : Tables) → settled r.goals r.values r.tables (word_in token) ≡ Some (state gs vs s) → Fits gs vs → View r token
+    at : (gs : List Goal) (vs : List Value) (s : Tables) → settled r.goals r.values r.tables (word_in token) ≡ Some (state gs vs s) → FitsOrDone gs vs → View r token
     at [] vs s is fit = stuck (ap (λ (o : Option State). taken_from o token) is)
     at (goal ∷ gs) vs s is fit = view_taken r token goal gs vs s is (goal_moved goal gs vs s token) refl (goal_fits goal gs vs s token fit)
 
@@ -250,6 +250,14 @@ of_ended r z h = by (settled r.goals r.values r.tables None) refl h
     by (Some rest) is c = at rest.goals rest.values rest.tables is c
 
 -- ---- what is read
+
+-- a state that is over goes on with no token
+pub not_over : (r : State) (y : Module) (m : Marked) (more : List Marked) (z : Module) → FitsIn r → ended r ≡ Some y → Lang r (m ∷ more) z → ⊥
+not_over r y m more z fit h c = at r.goals fit h c
+  where
+    at : (gs : List Goal) → FitsOrDone gs r.values → finished_from (settled gs r.values r.tables None) ≡ Some y → Completes gs r.values r.tables (m ∷ more) z → ⊥
+    at [] fit h c = let bad = c.0 in cc
+    at (goal ∷ gs) fit h c = let bad : None ≡ Some y = sym (left_over (goal ∷ gs) r.values r.tables fit) ∙ h in cc
 
 pub run_only : (ms : List Marked) (i : ℕ) (r : State) (z : Module) → FitsIn r → Lang r ms z → AreSound ms → run i (tokens_of ms) r ≡ Ok z
 unfolding run

@@ -28,7 +28,7 @@ use Rattle.hy_core.specs.Expressions as exprs
 use Rattle.hy_core.specs.Expressions.{named_by}
 use Rattle.hy_core.specs.Grammar as mods
 use Rattle.hy_core.specs.Grammar.{IsDropped, the_module_info, module_of}
-use Rattle.core_reader.specs.Machine.{state, closing, on, is_word, is_next, is_info, with_values, with_built, part_begun, expr_begun, pattern_begun, constant_begun, variable_begun, export_begun, key_begun, attribute_begun, value_begun, primop_begun, function_begun, definition_begun, body_begun, clause_begun, module_begun, info_arity_moved, info_export_moved, aliased_by, goal_moved, settled}
+use Rattle.core_reader.specs.Machine.{state, closing, on, is_word, is_next, is_info, with_values, with_built, part_begun, expr_begun, pattern_begun, constant_begun, variable_begun, export_begun, key_begun, attribute_begun, value_begun, primop_begun, function_begun, definition_begun, body_begun, clause_begun, module_begun, info_arity_moved, info_export_moved, aliased_by, goal_moved, settled, finished_from}
 use Rattle.core_reader.specs.Trees.{opened, added, closed, built, atom_built}
 use Rattle.core_reader.proofs.Tests.{not_word}
 use Rattle.core_reader.proofs.Meaning.{Completes, OnBuilt}
@@ -158,10 +158,15 @@ FunctionArityFits _ fits = ⊥
 abbrev pub NameFits : List Value → Fitting → Type 0
 NameFits vs fits = ((x : FunName) → fits (v.Name x ∷ vs)) × ((s : Tables) → fits (v.Dropped s ∷ vs))
 
--- the values fit the goals
+-- no goal is left and the parts of a module are read, or this
+abbrev pub OrDone : List Goal → List Value → Type 0 → Type 0
+OrDone [] vs A = IsDone vs
+OrDone (goal ∷ gs) vs A = A
+
+-- the values fit the goals, of which there is one; the last is a word, a note, definitions or a module, so it takes a token
 abbrev pub Fits : List Goal → List Value → Type 0
-Fits [] vs = IsDone vs
-Fits (g.Word k ∷ gs) vs = Fits gs vs
+Fits [] vs = ⊥
+Fits (g.Word k ∷ gs) vs = OrDone gs vs (Fits gs vs)
 Fits (g.Part k n ∷ gs) vs = PartFits k gs vs (λ ws. Fits gs ws)
 Fits (g.Parts k n c ∷ gs) vs = PartsFit k vs (λ ws. Fits gs ws)
 Fits (g.MoreParts k n c ∷ gs) vs = MorePartsFit k vs (λ ws. Fits gs ws)
@@ -176,7 +181,7 @@ Fits (g.Clauses n c ∷ gs) vs = ClausesFit vs (λ ws. Fits gs ws)
 Fits (g.Clause n inner ∷ gs) vs = ClauseFits inner vs (λ ws. Fits gs ws)
 Fits (g.ClauseRest n inner ∷ gs) vs = ClauseRestFits inner vs (λ ws. Fits gs ws)
 Fits (g.ClauseNote n inner ∷ gs) vs = ClauseNoteFits inner vs (λ ws. Fits gs ws)
-Fits (g.Note n ∷ gs) vs = Fits gs vs
+Fits (g.Note n ∷ gs) vs = OrDone gs vs (Fits gs vs)
 Fits (g.Key n ∷ gs) vs = Fits gs vs
 Fits (g.AttributeValue n ∷ gs) vs = Fits gs vs
 Fits (g.Primop n ∷ gs) vs = (k : ℕ) → Fits gs (v.Atom k ∷ vs)
@@ -186,33 +191,41 @@ Fits (g.FunctionArity ∷ gs) vs = FunctionArityFits vs (λ ws. Fits gs ws)
 Fits (g.InfoArity ∷ gs) vs = NameFits vs (λ ws. Fits gs ws)
 Fits (g.Functions n ∷ gs) vs = FunctionsFit vs (λ ws. Fits gs ws)
 Fits (g.FunctionName n ∷ gs) vs = (x : FunName) → Fits gs (v.Name x ∷ vs)
-Fits (g.Definitions n ∷ gs) vs = FunctionsFit vs (λ ws. Fits gs ws)
+Fits (g.Definitions n ∷ gs) vs = FunctionsFit vs (λ ws. OrDone gs ws (Fits gs ws))
 Fits (g.DefinitionName n ∷ gs) vs = NameFits vs (λ ws. Fits gs ws)
 Fits (g.FunctionBody n ∷ gs) vs = (xs : List ℕ) (x : Expr) → Fits gs (v.Expr x ∷ v.Variables xs ∷ vs)
-Fits (g.Module n ∷ gs) vs = (fs : List Function) (es : List FunName) (k : ℕ) → Fits gs (v.Functions fs ∷ v.Names es ∷ v.Atom k ∷ vs)
+Fits (g.Module n ∷ gs) vs = (fs : List Function) (es : List FunName) (k : ℕ) → OrDone gs (v.Functions fs ∷ v.Names es ∷ v.Atom k ∷ vs) (Fits gs (v.Functions fs ∷ v.Names es ∷ v.Atom k ∷ vs))
 Fits (g.ModuleName ∷ gs) vs = (k : ℕ) → Fits gs (v.Atom k ∷ vs)
 Fits (g.Build form ∷ gs) vs = (s : Tables) → IfBuilt (built form vs s) (λ ws. Fits gs ws)
 
 -- ---- a move keeps it
 
+-- the values fit the goals, or the module is read
+abbrev pub FitsOrDone : List Goal → List Value → Type 0
+FitsOrDone gs vs = OrDone gs vs (Fits gs vs)
+
+fits_or : (gs : List Goal) (vs : List Value) → Fits gs vs → FitsOrDone gs vs
+fits_or [] vs h = absurd h
+fits_or (goal ∷ gs) vs h = h
+
 abbrev pub FitsState : Option State → Type 0
 FitsState None = Unit {0}
-FitsState (Some r) = Fits r.goals r.values
+FitsState (Some r) = FitsOrDone r.goals r.values
 
 fits_if : (b : Bool) (x y : Option State) → FitsState x → FitsState y → FitsState (cond b x y)
 fits_if true x y h k = h
 fits_if false x y h k = k
 
-fits_on : (b : Bool) (r : State) → Fits r.goals r.values → FitsState (on b r)
+fits_on : (b : Bool) (r : State) → FitsOrDone r.goals r.values → FitsState (on b r)
 fits_on true r h = h
 fits_on false r h = tt
 
 expr_fits : (n : ℕ) (gs : List Goal) (vs : List Value) (s : Tables) (token : Token) → ((x : Expr) → Fits gs (v.Expr x ∷ vs)) → FitsState (expr_begun n gs vs s token)
-expr_fits n gs vs s (t.Integer sign digits) h = h _
-expr_fits n gs vs s (t.Character byte) h = h _
+expr_fits n gs vs s (t.Integer sign digits) h = fits_or gs _ (h _)
+expr_fits n gs vs s (t.Character byte) h = fits_or gs _ (h _)
 expr_fits n gs vs s (t.Atom text) h = h
-expr_fits n gs vs s (t.Str text) h = h _
-expr_fits n gs vs s (t.Variable name) h = h _
+expr_fits n gs vs s (t.Str text) h = fits_or gs _ (h _)
+expr_fits n gs vs s (t.Variable name) h = fits_or gs _ (h _)
 expr_fits n gs vs s (t.Word w.OpenList) h = h
 expr_fits n gs vs s (t.Word w.OpenTuple) h = λ xs o. h (e.Tuple 0 xs)
 expr_fits n gs vs s (t.Word w.Less) h = λ xs o. h (e.Values xs)
@@ -227,14 +240,14 @@ expr_fits n gs vs s (t.Word w.Receive) h = λ cs x y o. h (e.Receive cs x y)
 expr_fits n gs vs s (t.Word w.Try) h = λ x xs y ys z o. h (e.Try x xs y ys z)
 expr_fits n gs vs s (t.Word w.Catch) h = λ x o. h (e.Catch x)
 expr_fits n gs vs s (t.Word w.Fun) h = λ xs x o. h (e.Fun xs x)
-expr_fits n gs vs s (t.Word w.Open) h = h
+expr_fits n gs vs s (t.Word w.Open) h = λ x. fits_or gs _ (h x)
 expr_fits n gs vs s (t.Word _) h = tt
 
 pattern_fits : (n : ℕ) (gs : List Goal) (vs : List Value) (s : Tables) (token : Token) → Quiet gs → ((x : Pattern) → Fits gs (v.Pattern x ∷ vs)) → FitsState (pattern_begun n gs vs s token)
-pattern_fits n gs vs s (t.Integer sign digits) quiet h = h _
-pattern_fits n gs vs s (t.Character byte) quiet h = h _
-pattern_fits n gs vs s (t.Atom text) quiet h = h _
-pattern_fits n gs vs s (t.Str text) quiet h = h _
+pattern_fits n gs vs s (t.Integer sign digits) quiet h = fits_or gs _ (h _)
+pattern_fits n gs vs s (t.Character byte) quiet h = fits_or gs _ (h _)
+pattern_fits n gs vs s (t.Atom text) quiet h = fits_or gs _ (h _)
+pattern_fits n gs vs s (t.Str text) quiet h = fits_or gs _ (h _)
 pattern_fits n gs vs s (t.Variable name) quiet h = (quiet, h)
 pattern_fits n gs vs s (t.Word w.OpenList) quiet h = h
 pattern_fits n gs vs s (t.Word w.OpenTuple) quiet h = λ xs o. h (p.Tuple xs)
@@ -246,21 +259,21 @@ constant_fits n gs vs s (t.Word w.OpenList) h = h
 constant_fits n gs vs s (t.Word w.OpenTuple) h = h
 constant_fits n gs vs s (t.Word _) h = tt
 constant_fits n gs vs s (t.Variable name) h = tt
-constant_fits n gs vs s _ h = h
+constant_fits n gs vs s _ h = fits_or gs _ h
 
 variable_fits : (n : ℕ) (gs : List Goal) (vs : List Value) (s : Tables) (token : Token) → ((x : ℕ) → Fits gs (v.Variable x ∷ vs)) → FitsState (variable_begun n gs vs s token)
-variable_fits n gs vs s (t.Variable name) h = h _
-variable_fits n gs vs s (t.Word w.Open) h = h
+variable_fits n gs vs s (t.Variable name) h = fits_or gs _ (h _)
+variable_fits n gs vs s (t.Word w.Open) h = λ x. fits_or gs _ (h x)
 variable_fits n gs vs s _ h = tt
 
 export_fits : (n : ℕ) (gs : List Goal) (es : List FunName) (vs : List Value) (s : Tables) (token : Token) → ((xs : List FunName) → Fits gs (v.Names xs ∷ vs)) → FitsState (export_begun n gs (v.Names es ∷ vs) s token)
 export_fits n gs es vs s (t.Atom text) h = fits_if (is_info text) _ _ h h
-export_fits n gs es vs s (t.Word w.Open) h = h
+export_fits n gs es vs s (t.Word w.Open) h = λ xs. fits_or gs _ (h xs)
 export_fits n gs es vs s _ h = tt
 
 key_fits : (n : ℕ) (gs : List Goal) (vs : List Value) (s : Tables) (token : Token) → Fits gs vs → FitsState (key_begun n gs vs s token)
-key_fits n gs vs s (t.Atom text) h = h
-key_fits n gs vs s (t.Word w.Open) h = h
+key_fits n gs vs s (t.Atom text) h = fits_or gs _ h
+key_fits n gs vs s (t.Word w.Open) h = fits_or gs _ h
 key_fits n gs vs s _ h = tt
 
 part_fits : (k : Part) (n : ℕ) (gs : List Goal) (vs : List Value) (s : Tables) (token : Token) → PartFits k gs vs (λ ws. Fits gs ws) → FitsState (part_begun k n gs vs s token)
@@ -273,27 +286,27 @@ part_fits part.Export n gs _ s token h = absurd h
 part_fits part.Attribute n gs vs s token h = key_fits n (g.Word w.Equals ∷ g.AttributeValue n ∷ gs) vs s token h
 
 value_fits : (n : ℕ) (gs : List Goal) (vs : List Value) (s : Tables) (token : Token) → Fits gs vs → FitsState (value_begun n gs vs s token)
-value_fits n gs vs s (t.Word w.Open) h = h
+value_fits n gs vs s (t.Word w.Open) h = fits_or gs _ h
 value_fits n gs vs s token h = constant_fits n gs vs s token h
 
 primop_fits : (n : ℕ) (gs : List Goal) (vs : List Value) (s : Tables) (token : Token) → ((k : ℕ) → Fits gs (v.Atom k ∷ vs)) → FitsState (primop_begun n gs vs s token)
-primop_fits n gs vs s (t.Atom text) h = h _
-primop_fits n gs vs s (t.Word w.Open) h = h
+primop_fits n gs vs s (t.Atom text) h = fits_or gs _ (h _)
+primop_fits n gs vs s (t.Word w.Open) h = λ k. fits_or gs _ (h k)
 primop_fits n gs vs s _ h = tt
 
 function_fits : (n : ℕ) (gs : List Goal) (vs : List Value) (s : Tables) (token : Token) → ((x : FunName) → Fits gs (v.Name x ∷ vs)) → FitsState (function_begun n gs vs s token)
 function_fits n gs vs s (t.Atom text) h = h
-function_fits n gs vs s (t.Word w.Open) h = h
+function_fits n gs vs s (t.Word w.Open) h = λ x. fits_or gs _ (h x)
 function_fits n gs vs s _ h = tt
 
 definition_fits : (n : ℕ) (gs : List Goal) (vs : List Value) (s : Tables) (token : Token) → NameFits vs (λ ws. Fits gs ws) → FitsState (definition_begun n gs vs s token)
 definition_fits n gs vs s (t.Atom text) h = fits_if (is_info text) _ _ h h.0
-definition_fits n gs vs s (t.Word w.Open) h = h
+definition_fits n gs vs s (t.Word w.Open) h = ((λ x. fits_or gs _ (h.0 x)), (λ before. fits_or gs _ (h.1 before)))
 definition_fits n gs vs s _ h = tt
 
 body_fits : (n : ℕ) (gs : List Goal) (vs : List Value) (s : Tables) (token : Token) → ((xs : List ℕ) (x : Expr) → Fits gs (v.Expr x ∷ v.Variables xs ∷ vs)) → FitsState (body_begun n gs vs s token)
 body_fits n gs vs s (t.Word w.Fun) h = h
-body_fits n gs vs s (t.Word w.Open) h = h
+body_fits n gs vs s (t.Word w.Open) h = λ xs x. fits_or gs _ (h xs x)
 body_fits n gs vs s _ h = tt
 
 clause_fits : (n : ℕ) (inner : Bool) (gs : List Goal) (bs : List Clause) (vs : List Value) (s : Tables) (token : Token) → EitherFits inner bs vs (λ ws. Fits gs ws) → FitsState (clause_begun n inner gs (v.Clauses bs ∷ vs) s token)
@@ -301,7 +314,7 @@ clause_fits n inner gs bs vs s (t.Word w.Open) h = (h.0, λ x. h)
 clause_fits n inner gs bs vs s (t.Word w.Less) h = λ xs x y o. h.0 _
 clause_fits n inner gs bs vs s token h = pattern_fits n (g.ClauseRest n inner ∷ gs) (v.Clauses bs ∷ vs) s token tt (λ x. h)
 
-module_fits : (n : ℕ) (gs : List Goal) (vs : List Value) (s : Tables) (token : Token) → ((fs : List Function) (es : List FunName) (k : ℕ) → Fits gs (v.Functions fs ∷ v.Names es ∷ v.Atom k ∷ vs)) → FitsState (module_begun n gs vs s token)
+module_fits : (n : ℕ) (gs : List Goal) (vs : List Value) (s : Tables) (token : Token) → ((fs : List Function) (es : List FunName) (k : ℕ) → FitsOrDone gs (v.Functions fs ∷ v.Names es ∷ v.Atom k ∷ vs)) → FitsState (module_begun n gs vs s token)
 module_fits n gs vs s (t.Word w.Module) h = λ k es o fs. h fs es k
 module_fits n gs vs s (t.Word w.Open) h = h
 module_fits n gs vs s _ h = tt
@@ -309,41 +322,41 @@ module_fits n gs vs s _ h = tt
 -- ---- lists of parts
 
 parts_fit : (k : Part) (n : ℕ) (c : Closer) (gs : List Goal) (vs : List Value) (s : Tables) (token : Token) → PartsFit k vs (λ ws. Fits gs ws) → FitsState (goal_moved (g.Parts k n c) gs vs s token)
-parts_fit part.Expr n c gs vs s token h = fits_if (is_word (closing c) token) _ _ (h []) (expr_fits n (g.MoreParts part.Expr n c ∷ gs) (v.Exprs [] ∷ vs) s token (λ x. h))
-parts_fit part.Pattern n c gs vs s token h = fits_if (is_word (closing c) token) _ _ (h []) (pattern_fits n (g.MoreParts part.Pattern n c ∷ gs) (v.Patterns [] ∷ vs) s token tt (λ x. h))
-parts_fit part.Constant n c gs vs s token h = fits_if (is_word (closing c) token) _ _ h (constant_fits n (g.MoreParts part.Constant n c ∷ gs) vs s token h)
-parts_fit part.Variable n c gs vs s token h = fits_if (is_word (closing c) token) _ _ (h []) (variable_fits n (g.MoreParts part.Variable n c ∷ gs) (v.Variables [] ∷ vs) s token (λ x. h))
-parts_fit part.Export n c gs vs s token h = fits_if (is_word (closing c) token) _ _ (h []) (export_fits n (g.MoreParts part.Export n c ∷ gs) [] vs s token (λ x. h))
-parts_fit part.Attribute n c gs vs s token h = fits_if (is_word (closing c) token) _ _ h (key_fits n (g.Word w.Equals ∷ g.AttributeValue n ∷ g.MoreParts part.Attribute n c ∷ gs) vs s token h)
+parts_fit part.Expr n c gs vs s token h = fits_if (is_word (closing c) token) _ _ (fits_or gs _ (h [])) (expr_fits n (g.MoreParts part.Expr n c ∷ gs) (v.Exprs [] ∷ vs) s token (λ x. h))
+parts_fit part.Pattern n c gs vs s token h = fits_if (is_word (closing c) token) _ _ (fits_or gs _ (h [])) (pattern_fits n (g.MoreParts part.Pattern n c ∷ gs) (v.Patterns [] ∷ vs) s token tt (λ x. h))
+parts_fit part.Constant n c gs vs s token h = fits_if (is_word (closing c) token) _ _ (fits_or gs _ h) (constant_fits n (g.MoreParts part.Constant n c ∷ gs) vs s token h)
+parts_fit part.Variable n c gs vs s token h = fits_if (is_word (closing c) token) _ _ (fits_or gs _ (h [])) (variable_fits n (g.MoreParts part.Variable n c ∷ gs) (v.Variables [] ∷ vs) s token (λ x. h))
+parts_fit part.Export n c gs vs s token h = fits_if (is_word (closing c) token) _ _ (fits_or gs _ (h [])) (export_fits n (g.MoreParts part.Export n c ∷ gs) [] vs s token (λ x. h))
+parts_fit part.Attribute n c gs vs s token h = fits_if (is_word (closing c) token) _ _ (fits_or gs _ h) (key_fits n (g.Word w.Equals ∷ g.AttributeValue n ∷ g.MoreParts part.Attribute n c ∷ gs) vs s token h)
 
 more_parts_fit : (k : Part) (n : ℕ) (c : Closer) (gs : List Goal) (vs : List Value) (s : Tables) (token : Token) → MorePartsFit k vs (λ ws. Fits gs ws) → FitsState (goal_moved (g.MoreParts k n c) gs vs s token)
-more_parts_fit part.Expr n c gs (v.Expr x ∷ v.Exprs xs ∷ vs) s token h = fits_if (is_word (closing c) token) _ _ (h _) (fits_if (is_word w.Comma token) _ _ (λ y. h) tt)
-more_parts_fit part.Pattern n c gs (v.Pattern x ∷ v.Patterns xs ∷ vs) s token h = fits_if (is_word (closing c) token) _ _ (h _) (fits_if (is_word w.Comma token) _ _ (tt, λ y. h) tt)
-more_parts_fit part.Variable n c gs (v.Variable x ∷ v.Variables xs ∷ vs) s token h = fits_if (is_word (closing c) token) _ _ (h _) (fits_if (is_word w.Comma token) _ _ (λ y. h) tt)
-more_parts_fit part.Export n c gs (v.Names es ∷ vs) s token h = fits_if (is_word (closing c) token) _ _ (h _) (fits_if (is_word w.Comma token) _ _ (λ y. h) tt)
-more_parts_fit part.Constant n c gs vs s token h = fits_if (is_word (closing c) token) _ _ h (fits_if (is_word w.Comma token) _ _ h tt)
-more_parts_fit part.Attribute n c gs vs s token h = fits_if (is_word (closing c) token) _ _ h (fits_if (is_word w.Comma token) _ _ h tt)
+more_parts_fit part.Expr n c gs (v.Expr x ∷ v.Exprs xs ∷ vs) s token h = fits_if (is_word (closing c) token) _ _ (fits_or gs _ (h _)) (fits_if (is_word w.Comma token) _ _ (λ y. h) tt)
+more_parts_fit part.Pattern n c gs (v.Pattern x ∷ v.Patterns xs ∷ vs) s token h = fits_if (is_word (closing c) token) _ _ (fits_or gs _ (h _)) (fits_if (is_word w.Comma token) _ _ (tt, λ y. h) tt)
+more_parts_fit part.Variable n c gs (v.Variable x ∷ v.Variables xs ∷ vs) s token h = fits_if (is_word (closing c) token) _ _ (fits_or gs _ (h _)) (fits_if (is_word w.Comma token) _ _ (λ y. h) tt)
+more_parts_fit part.Export n c gs (v.Names es ∷ vs) s token h = fits_if (is_word (closing c) token) _ _ (fits_or gs _ (h _)) (fits_if (is_word w.Comma token) _ _ (λ y. h) tt)
+more_parts_fit part.Constant n c gs vs s token h = fits_if (is_word (closing c) token) _ _ (fits_or gs _ h) (fits_if (is_word w.Comma token) _ _ h tt)
+more_parts_fit part.Attribute n c gs vs s token h = fits_if (is_word (closing c) token) _ _ (fits_or gs _ h) (fits_if (is_word w.Comma token) _ _ h tt)
 more_parts_fit _ n c gs _ s token h = absurd h
 
 heads_fit : (k : Part) (n : ℕ) (gs : List Goal) (vs : List Value) (s : Tables) (token : Token) → HeadsFit k vs (λ ws. Fits gs ws) → FitsState (goal_moved (g.Heads k n) gs vs s token)
-heads_fit part.Expr n gs (v.Exprs xs ∷ vs) s token h = fits_if (is_word w.CloseList token) _ _ (h _) (expr_fits (n + 1) (g.MoreHeads part.Expr n ∷ gs) (v.Exprs xs ∷ vs) s token (λ x. h))
-heads_fit part.Pattern n gs (v.Patterns xs ∷ vs) s token h = fits_if (is_word w.CloseList token) _ _ (h _) (pattern_fits (n + 1) (g.MoreHeads part.Pattern n ∷ gs) (v.Patterns xs ∷ vs) s token tt (λ x. h))
-heads_fit part.Constant n gs vs s token h = fits_if (is_word w.CloseList token) _ _ h (constant_fits (n + 1) (g.MoreHeads part.Constant n ∷ gs) vs s token h)
+heads_fit part.Expr n gs (v.Exprs xs ∷ vs) s token h = fits_if (is_word w.CloseList token) _ _ (fits_or gs _ (h _)) (expr_fits (n + 1) (g.MoreHeads part.Expr n ∷ gs) (v.Exprs xs ∷ vs) s token (λ x. h))
+heads_fit part.Pattern n gs (v.Patterns xs ∷ vs) s token h = fits_if (is_word w.CloseList token) _ _ (fits_or gs _ (h _)) (pattern_fits (n + 1) (g.MoreHeads part.Pattern n ∷ gs) (v.Patterns xs ∷ vs) s token tt (λ x. h))
+heads_fit part.Constant n gs vs s token h = fits_if (is_word w.CloseList token) _ _ (fits_or gs _ h) (constant_fits (n + 1) (g.MoreHeads part.Constant n ∷ gs) vs s token h)
 heads_fit _ n gs _ s token h = absurd h
 
 more_heads_fit : (k : Part) (n : ℕ) (gs : List Goal) (vs : List Value) (s : Tables) (token : Token) → MoreHeadsFit k vs (λ ws. Fits gs ws) → FitsState (goal_moved (g.MoreHeads k n) gs vs s token)
 more_heads_fit part.Expr n gs (v.Expr x ∷ v.Exprs xs ∷ vs) s token h =
-    fits_if (is_word w.CloseList token) _ _ (h _) (fits_if (is_word w.Comma token) _ _ (λ y. h) (fits_if (is_word w.Bar token) _ _ h tt))
+    fits_if (is_word w.CloseList token) _ _ (fits_or gs _ (h _)) (fits_if (is_word w.Comma token) _ _ (λ y. h) (fits_if (is_word w.Bar token) _ _ h tt))
 more_heads_fit part.Pattern n gs (v.Pattern x ∷ v.Patterns xs ∷ vs) s token h =
-    fits_if (is_word w.CloseList token) _ _ (h _) (fits_if (is_word w.Comma token) _ _ (tt, λ y. h) (fits_if (is_word w.Bar token) _ _ h tt))
-more_heads_fit part.Constant n gs vs s token h = fits_if (is_word w.CloseList token) _ _ h (fits_if (is_word w.Comma token) _ _ h (fits_if (is_word w.Bar token) _ _ h tt))
+    fits_if (is_word w.CloseList token) _ _ (fits_or gs _ (h _)) (fits_if (is_word w.Comma token) _ _ (tt, λ y. h) (fits_if (is_word w.Bar token) _ _ h tt))
+more_heads_fit part.Constant n gs vs s token h = fits_if (is_word w.CloseList token) _ _ (fits_or gs _ h) (fits_if (is_word w.Comma token) _ _ h (fits_if (is_word w.Bar token) _ _ h tt))
 more_heads_fit _ n gs _ s token h = absurd h
 
 tail_fits : (k : Part) (n : ℕ) (gs : List Goal) (vs : List Value) (s : Tables) (token : Token) → HeadsFit k vs (λ ws. Fits gs ws) → FitsState (goal_moved (g.Tail k n) gs vs s token)
-tail_fits part.Expr n gs (v.Exprs xs ∷ vs) s token h = fits_if (is_word w.OpenList token) _ _ h (expr_fits (n + 1) (g.Word w.CloseList ∷ g.Build (f.Join part.Expr) ∷ gs) (v.Exprs xs ∷ vs) s token (λ x o. h _))
+tail_fits part.Expr n gs (v.Exprs xs ∷ vs) s token h = fits_if (is_word w.OpenList token) _ _ (λ x. fits_or gs _ (h x)) (expr_fits (n + 1) (g.Word w.CloseList ∷ g.Build (f.Join part.Expr) ∷ gs) (v.Exprs xs ∷ vs) s token (λ x o. h _))
 tail_fits part.Pattern n gs (v.Patterns xs ∷ vs) s token h =
-    fits_if (is_word w.OpenList token) _ _ h (pattern_fits (n + 1) (g.Word w.CloseList ∷ g.Build (f.Join part.Pattern) ∷ gs) (v.Patterns xs ∷ vs) s token refl (λ x o. h _))
-tail_fits part.Constant n gs vs s token h = fits_if (is_word w.OpenList token) _ _ h (constant_fits (n + 1) (g.Word w.CloseList ∷ g.Build (f.Join part.Constant) ∷ gs) vs s token (λ o. h))
+    fits_if (is_word w.OpenList token) _ _ (λ x. fits_or gs _ (h x)) (pattern_fits (n + 1) (g.Word w.CloseList ∷ g.Build (f.Join part.Pattern) ∷ gs) (v.Patterns xs ∷ vs) s token refl (λ x o. h _))
+tail_fits part.Constant n gs vs s token h = fits_if (is_word w.OpenList token) _ _ (fits_or gs _ h) (constant_fits (n + 1) (g.Word w.CloseList ∷ g.Build (f.Join part.Constant) ∷ gs) vs s token (λ o. h))
 tail_fits _ n gs _ s token h = absurd h
 
 -- ---- every goal
@@ -354,7 +367,7 @@ aliased_fits n gs _ vs s quiet h = tt
 
 clause_note_fits : (n : ℕ) (inner : Bool) (gs : List Goal) (vs : List Value) (s : Tables) (token : Token) → ClauseNoteFits inner vs (λ ws. Fits gs ws) → FitsState (goal_moved (g.ClauseNote n inner) gs vs s token)
 clause_note_fits n inner gs (v.Pattern x ∷ v.Clauses bs ∷ vs) s token h = fits_on (is_word w.NoteBar token) _ (tt, λ y. h)
-clause_note_fits n inner gs (v.Clauses bs ∷ vs) s token h = fits_on (is_word w.NoteBar token) _ h
+clause_note_fits n inner gs (v.Clauses bs ∷ vs) s token h = fits_on (is_word w.NoteBar token) _ (fits_or gs _ h)
 clause_note_fits n inner gs _ s token h = absurd h
 
 pub goal_fits : (goal : Goal) (gs : List Goal) (vs : List Value) (s : Tables) (token : Token) → Fits (goal ∷ gs) vs → FitsState (goal_moved goal gs vs s token)
@@ -367,13 +380,13 @@ goal_fits (g.MoreHeads k n) gs vs s token h = more_heads_fit k n gs vs s token h
 goal_fits (g.Tail k n) gs vs s token h = tail_fits k n gs vs s token h
 goal_fits g.NameOrAtom gs (v.Atom a ∷ vs) s token h = fits_on (is_word w.Slash token) _ h
 goal_fits g.NameOrAtom gs _ s token h = absurd h
-goal_fits g.Arity gs (v.Atom a ∷ vs) s (t.Integer sign.Absent digits) h = h _
+goal_fits g.Arity gs (v.Atom a ∷ vs) s (t.Integer sign.Absent digits) h = fits_or gs _ (h _)
 goal_fits g.Arity gs (v.Atom a ∷ vs) s _ h = tt
 goal_fits g.Arity gs _ s token h = absurd h
 goal_fits (g.Alias n) gs (v.Pattern x ∷ vs) s token h = fits_if (is_word w.Equals token) _ _ (aliased_fits n gs x vs s h.0 h.1) tt
 goal_fits (g.Alias n) gs _ s token h = absurd h
 goal_fits (g.Bindings n) gs vs s token h = fits_if (is_word w.Less token) _ _ h (variable_fits n (g.Build f.OneVariable ∷ gs) vs s token (λ x o. h _))
-goal_fits (g.Clauses n c) gs (v.Clauses bs ∷ vs) s token h = fits_if (is_word (closing c) token) _ _ (h _) (clause_fits n false (g.Clauses n c ∷ gs) bs vs s token ((λ cs. h), tt))
+goal_fits (g.Clauses n c) gs (v.Clauses bs ∷ vs) s token h = fits_if (is_word (closing c) token) _ _ (fits_or gs _ (h _)) (clause_fits n false (g.Clauses n c ∷ gs) bs vs s token ((λ cs. h), tt))
 goal_fits (g.Clauses n c) gs _ s token h = absurd h
 goal_fits (g.Clause n inner) gs (v.Clauses bs ∷ vs) s token h = clause_fits n inner gs bs vs s token h
 goal_fits (g.Clause n inner) gs _ s token h = absurd h
@@ -384,19 +397,19 @@ goal_fits (g.Note n) gs vs s token h = fits_on (is_word w.NoteBar token) _ h
 goal_fits (g.Key n) gs vs s token h = key_fits n gs vs s token h
 goal_fits (g.AttributeValue n) gs vs s token h = value_fits n gs vs s token h
 goal_fits (g.Primop n) gs vs s token h = primop_fits n gs vs s token h
-goal_fits g.ExportArity gs (v.Atom a ∷ v.Names es ∷ vs) s (t.Integer sign.Absent digits) h = h _
+goal_fits g.ExportArity gs (v.Atom a ∷ v.Names es ∷ vs) s (t.Integer sign.Absent digits) h = fits_or gs _ (h _)
 goal_fits g.ExportArity gs (v.Atom a ∷ v.Names es ∷ vs) s _ h = tt
 goal_fits g.ExportArity gs _ s token h = absurd h
-goal_fits g.InfoExportArity gs (v.Names es ∷ vs) s (t.Integer sign.Absent digits) h = fits_if (leb (value digits) 1) _ _ (h _) (h _)
+goal_fits g.InfoExportArity gs (v.Names es ∷ vs) s (t.Integer sign.Absent digits) h = fits_if (leb (value digits) 1) _ _ (fits_or gs _ (h _)) (fits_or gs _ (h _))
 goal_fits g.InfoExportArity gs (v.Names es ∷ vs) s _ h = tt
 goal_fits g.InfoExportArity gs _ s token h = absurd h
-goal_fits g.FunctionArity gs (v.Atom a ∷ vs) s (t.Integer sign.Absent digits) h = h _
+goal_fits g.FunctionArity gs (v.Atom a ∷ vs) s (t.Integer sign.Absent digits) h = fits_or gs _ (h _)
 goal_fits g.FunctionArity gs (v.Atom a ∷ vs) s _ h = tt
 goal_fits g.FunctionArity gs _ s token h = absurd h
-goal_fits g.InfoArity gs vs s (t.Integer sign.Absent digits) h = fits_if (leb (value digits) 1) _ _ (h.1 s) (h.0 _)
+goal_fits g.InfoArity gs vs s (t.Integer sign.Absent digits) h = fits_if (leb (value digits) 1) _ _ (fits_or gs _ (h.1 s)) (fits_or gs _ (h.0 _))
 goal_fits g.InfoArity gs vs s _ h = tt
 goal_fits (g.Functions n) gs (v.Functions es ∷ vs) s token h =
-    fits_if (is_word w.In token) _ _ (h _) (function_fits n (g.Word w.Equals ∷ g.FunctionBody n ∷ g.Build f.Function ∷ g.Functions n ∷ gs) (v.Functions es ∷ vs) s token (λ x xs y o. h))
+    fits_if (is_word w.In token) _ _ (fits_or gs _ (h _)) (function_fits n (g.Word w.Equals ∷ g.FunctionBody n ∷ g.Build f.Function ∷ g.Functions n ∷ gs) (v.Functions es ∷ vs) s token (λ x xs y o. h))
 goal_fits (g.Functions n) gs _ s token h = absurd h
 goal_fits (g.FunctionName n) gs vs s token h = function_fits n gs vs s token h
 goal_fits (g.Definitions n) gs (v.Functions es ∷ vs) s token h =
@@ -406,7 +419,7 @@ goal_fits (g.Definitions n) gs _ s token h = absurd h
 goal_fits (g.DefinitionName n) gs vs s token h = definition_fits n gs vs s token h
 goal_fits (g.FunctionBody n) gs vs s token h = body_fits n gs vs s token h
 goal_fits (g.Module n) gs vs s token h = module_fits n gs vs s token h
-goal_fits g.ModuleName gs vs s (t.Atom name) h = h _
+goal_fits g.ModuleName gs vs s (t.Atom name) h = fits_or gs _ (h _)
 goal_fits g.ModuleName gs vs s _ h = tt
 goal_fits (g.Build form) gs vs s token h = tt
 
@@ -415,7 +428,7 @@ goal_fits (g.Build form) gs vs s token h = tt
 -- there is a state, and its values fit
 abbrev pub FitsSome : Option State → Type 0
 FitsSome None = ⊥
-FitsSome (Some r) = Fits r.goals r.values
+FitsSome (Some r) = FitsOrDone r.goals r.values
 
 some_if : (b : Bool) (x y : Option State) → FitsSome x → FitsSome y → FitsSome (cond b x y)
 some_if true x y h k = h
@@ -425,14 +438,37 @@ some_built : (o : Option (List Value × Tables)) (gs : List Goal) (next : Option
 some_built None gs next h further = h
 some_built (Some r) gs next h further = further r.0 r.1 h
 
-pub settle_fits : (gs : List Goal) (vs : List Value) (s : Tables) (next : Option Word) → Fits gs vs → FitsSome (settled gs vs s next)
+settle_fit : (gs : List Goal) (vs : List Value) (s : Tables) (next : Option Word) → Fits gs vs → FitsSome (settled gs vs s next)
+unfolding settled
+settle_fit [] vs s next h = absurd h
+settle_fit (g.Build form ∷ gs) vs s next h = some_built (built form vs s) gs next (h s) (λ ws u k. settle_fit gs ws u next k)
+settle_fit (g.NameOrAtom ∷ gs) (v.Atom a ∷ vs) s next h = some_if (is_next w.Slash next) _ _ h (settle_fit gs (v.Expr (e.Atom a) ∷ vs) s next (h _))
+settle_fit (g.NameOrAtom ∷ gs) _ s next h = absurd h
+settle_fit (g.Alias n ∷ gs) (v.Pattern x ∷ vs) s next h = some_if (is_next w.Equals next) _ _ h (settle_fit gs (v.Pattern x ∷ vs) s next (h.1 x))
+settle_fit (g.Alias n ∷ gs) _ s next h = absurd h
+settle_fit (g.ClauseRest n true ∷ gs) (v.Pattern x ∷ v.Clauses bs ∷ vs) s next h = some_if (is_next w.When next) _ _ h (settle_fit gs (v.Pattern x ∷ v.Clauses bs ∷ vs) s next (h.1 x))
+settle_fit (g.ClauseRest n true ∷ gs) _ s next h = absurd h
+settle_fit (goal ∷ gs) vs s next h = h
+
+pub settle_fits : (gs : List Goal) (vs : List Value) (s : Tables) (next : Option Word) → FitsOrDone gs vs → FitsSome (settled gs vs s next)
 unfolding settled
 settle_fits [] vs s next h = h
-settle_fits (g.Build form ∷ gs) vs s next h = some_built (built form vs s) gs next (h s) (λ ws u k. settle_fits gs ws u next k)
-settle_fits (g.NameOrAtom ∷ gs) (v.Atom a ∷ vs) s next h = some_if (is_next w.Slash next) _ _ h (settle_fits gs (v.Expr (e.Atom a) ∷ vs) s next (h _))
-settle_fits (g.NameOrAtom ∷ gs) _ s next h = absurd h
-settle_fits (g.Alias n ∷ gs) (v.Pattern x ∷ vs) s next h = some_if (is_next w.Equals next) _ _ h (settle_fits gs (v.Pattern x ∷ vs) s next (h.1 x))
-settle_fits (g.Alias n ∷ gs) _ s next h = absurd h
-settle_fits (g.ClauseRest n true ∷ gs) (v.Pattern x ∷ v.Clauses bs ∷ vs) s next h = some_if (is_next w.When next) _ _ h (settle_fits gs (v.Pattern x ∷ v.Clauses bs ∷ vs) s next (h.1 x))
-settle_fits (g.ClauseRest n true ∷ gs) _ s next h = absurd h
-settle_fits (goal ∷ gs) vs s next h = h
+settle_fits (goal ∷ gs) vs s next h = settle_fit (goal ∷ gs) vs s next h
+
+-- ---- where a goal is left, no module is read
+
+built_over : (o : Option (List Value × Tables)) (gs : List Goal) → IfBuilt o (λ ws. Fits gs ws) → ((ws : List Value) (u : Tables) → Fits gs ws → finished_from (settled gs ws u None) ≡ None) → finished_from (with_built o (λ ws u. settled gs ws u None)) ≡ None
+built_over None gs h further = refl
+built_over (Some r) gs h further = further r.0 r.1 h
+
+pub left_over : (gs : List Goal) (vs : List Value) (s : Tables) → Fits gs vs → finished_from (settled gs vs s None) ≡ None
+unfolding settled
+left_over [] vs s h = absurd h
+left_over (g.Build form ∷ gs) vs s h = built_over (built form vs s) gs (h s) (λ ws u k. left_over gs ws u k)
+left_over (g.NameOrAtom ∷ gs) (v.Atom a ∷ vs) s h = left_over gs (v.Expr (e.Atom a) ∷ vs) s (h _)
+left_over (g.NameOrAtom ∷ gs) _ s h = absurd h
+left_over (g.Alias n ∷ gs) (v.Pattern x ∷ vs) s h = left_over gs (v.Pattern x ∷ vs) s (h.1 x)
+left_over (g.Alias n ∷ gs) _ s h = absurd h
+left_over (g.ClauseRest n true ∷ gs) (v.Pattern x ∷ v.Clauses bs ∷ vs) s h = left_over gs (v.Pattern x ∷ v.Clauses bs ∷ vs) s (h.1 x)
+left_over (g.ClauseRest n true ∷ gs) _ s h = absurd h
+left_over (goal ∷ gs) vs s h = refl

@@ -13,3 +13,4 @@ pub mod BackGoals
 pub mod Fitting
 pub mod Living
 pub mod Exact
+pub mod Refusing

@@ -32,7 +32,7 @@ use Rattle.core_reader.specs.Machine.{closing}
 use Rattle.core_reader.specs.Trees.{built}
 use Rattle.core_reader.proofs.Tests.{not_word}
 use Rattle.core_reader.proofs.Meaning.{Completes, OnBuilt, ClauseWhenThen}
-use Rattle.core_reader.proofs.Fitting.{Quiet, IfBuilt, Fits}
+use Rattle.core_reader.proofs.Fitting.{Quiet, IfBuilt, Fits, FitsOrDone}
 use Rattle.hy_core.specs.declared.tree.FunName.{FunName}
 use Rattle.hy_core.specs.declared.tree.Function.{Function}
 use Rattle.hy_core.specs.declared.tree.Clause.{Clause}
@@ -114,12 +114,17 @@ alive_built form gs vs s (Some o) is h further =
     let r = further o.0 o.1 h in
     record { tokens = r.tokens; tree = r.tree; completes = rw is r.completes; quiet = r.quiet }
 
+-- the module is read, or some tokens complete the state
+or_done : (gs : List Goal) (vs : List Value) (s : Tables) → FitsOrDone gs vs → (Fits gs vs → Alive gs vs s) → Alive gs vs s
+or_done [] (v.Functions fs ∷ v.Names es ∷ v.Atom k ∷ []) s h further = record { tokens = []; tree = module_of k es fs s; completes = (refl, refl); quiet = λ _. tt }
+or_done [] _ s h further = absurd h
+or_done (goal ∷ gs) vs s h further = further h
+
 pub alive : (gs : List Goal) (vs : List Value) (s : Tables) → Fits gs vs → Alive gs vs s
 unfolding zero the_zero
-alive [] (v.Functions fs ∷ v.Names es ∷ v.Atom k ∷ []) s h = record { tokens = []; tree = module_of k es fs s; completes = (refl, refl); quiet = λ _. tt }
-alive [] _ s h = absurd h
+alive [] vs s h = absurd h
 alive (g.Word k ∷ gs) vs s h =
-    let r = alive gs vs s h in
+    let r = or_done gs vs s h (λ f. alive gs vs s f) in
     record { tokens = word k ∷ r.tokens; tree = r.tree; completes = (_, refl, r.completes); quiet = λ quiet. not_word w.Equals (t.Word k) quiet }
 alive (g.Part part.Expr n ∷ gs) vs s h =
     let r = alive gs (v.Expr the_zero ∷ vs) s (h the_zero) in
@@ -261,7 +266,7 @@ alive (g.ClauseNote n inner ∷ gs) (v.Clauses bs ∷ vs) s h =
     record { tokens = empty_note r.tokens; tree = r.tree; completes = (_, note_of n r.tokens, r.completes); quiet = λ _. note_quietly r.tokens }
 alive (g.ClauseNote n inner ∷ gs) _ s h = absurd h
 alive (g.Note n ∷ gs) vs s h =
-    let r = alive gs vs s h in
+    let r = or_done gs vs s h (λ f. alive gs vs s f) in
     record { tokens = empty_note r.tokens; tree = r.tree; completes = (_, note_of n r.tokens, r.completes); quiet = λ _. note_quietly r.tokens }
 alive (g.Key n ∷ gs) vs s h =
     let r = alive gs vs s h in
@@ -295,7 +300,7 @@ alive (g.FunctionName n ∷ gs) vs s h =
     let r = alive gs (v.Name (named_by (atom_number s []) []) ∷ vs) (with_atom s []) (h _) in
     record { tokens = plain (t.Atom []) ∷ word w.Slash ∷ arity [] ∷ r.tokens; tree = r.tree; completes = (_, _, _, notes.name [] [], r.completes); quiet = λ no. absurd no }
 alive (g.Definitions n ∷ gs) (v.Functions es ∷ vs) s h =
-    let r = alive gs (v.Functions (es ++ []) ∷ vs) s (h _) in
+    let r = or_done gs (v.Functions (es ++ []) ∷ vs) s (h _) (λ f. alive gs (v.Functions (es ++ []) ∷ vs) s f) in
     record { tokens = word w.End ∷ r.tokens; tree = r.tree; completes = (_, _, _, mods.no_definitions, r.completes); quiet = λ no. absurd no }
 alive (g.Definitions n ∷ gs) _ s h = absurd h
 alive (g.DefinitionName n ∷ gs) vs s h =
@@ -310,7 +315,7 @@ alive (g.FunctionBody n ∷ gs) vs s h =
       quiet = λ no. absurd no;
     }
 alive (g.Module n ∷ gs) vs s h =
-    let r = alive gs (v.Functions [] ∷ v.Names [] ∷ v.Atom (atom_number s []) ∷ vs) (with_atom s []) (h [] [] _) in
+    let r = or_done gs (v.Functions [] ∷ v.Names [] ∷ v.Atom (atom_number s []) ∷ vs) (with_atom s []) (h [] [] _) (λ f. alive gs (v.Functions [] ∷ v.Names [] ∷ v.Atom (atom_number s []) ∷ vs) (with_atom s []) f) in
     record {
       tokens = at n (t.Word w.Module) ∷ plain (t.Atom []) ∷ word w.OpenList ∷ word w.CloseList ∷ word w.Attributes ∷ word w.OpenList ∷ word w.CloseList ∷ word w.End ∷ r.tokens;
       tree = r.tree;
@@ -321,3 +326,6 @@ alive (g.ModuleName ∷ gs) vs s h =
     let r = alive gs (v.Atom (atom_number s []) ∷ vs) (with_atom s []) (h _) in
     record { tokens = plain (t.Atom []) ∷ r.tokens; tree = r.tree; completes = ([], (_, refl, r.completes)); quiet = λ no. absurd no }
 alive (g.Build form ∷ gs) vs s h = alive_built form gs vs s (built form vs s) refl (h s) (λ ws u k. alive gs ws u k)
+
+pub alive_or : (gs : List Goal) (vs : List Value) (s : Tables) → FitsOrDone gs vs → Alive gs vs s
+alive_or gs vs s h = or_done gs vs s h (λ f. alive gs vs s f)
