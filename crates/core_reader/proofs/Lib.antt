@@ -14,3 +14,4 @@ pub mod Fitting
 pub mod Living
 pub mod Exact
 pub mod Refusing
+pub mod WholeText

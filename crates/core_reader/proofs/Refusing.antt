@@ -207,7 +207,7 @@ stands_run Wrong kind wrong (b ∷ before) after t i r fit (n ∷ ms, more, m, z
     run_on i b (before ++ t ∷ after) r step.next step.steps
     ∙ place_on kind i (length before) _ (stands_run Wrong kind wrong before after t (suc i) step.next step.fit (ms, more, m, z, rest, there, good.1, bad, step.completes))
 
-ended_run : (ts : List Token) (i : ℕ) (r : State) → FitsIn r → EndedBy (Lang r) ts → run i ts r ≡ Err (k.Ended, i + length ts)
+pub ended_run : (ts : List Token) (i : ℕ) (r : State) → FitsIn r → EndedBy (Lang r) ts → run i ts r ≡ Err (k.Ended, i + length ts)
 unfolding run
 ended_run [] i r fit ([], more, m, z, is, good, c) = by (ended r) refl
   where

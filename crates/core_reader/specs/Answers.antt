@@ -1,8 +1,14 @@
 -- What the reader answers.
-use Rattle.std.specs.Prelude.{◌≡◌, ℕ, List, [], ◌∷◌, Option, Some, None, Result, Ok, Err}
+use Rattle.std.specs.Prelude.{◌≡◌, ℕ, ◌-◌, ◌≤◌, ◌<◌, ◌^◌, List, [], ◌∷◌, length, slice_get, Option, Some, None, Result, Ok, Err}
+use Rattle.hy_core.specs.Tokens.{Lexes, AreWithin, EndsWithin}
+use Rattle.hy_core.specs.Reading.{tokens_in}
+use Rattle.hy_core.specs.declared.token.Lexeme.{Lexeme}
+use Rattle.hy_core.specs.declared.token.Ending.{Ending}
+use Rattle.hy_core.specs.declared.token.Ending.TheVariants as ends
+use Rattle.hy_core.specs.declared.refusal.RefusalKind.TheVariants as kinds
 use Rattle.hy_core.specs.declared.refusal.RefusalKind.{RefusalKind}
 use Rattle.hy_core.specs.declared.tree.Module.{Module}
-use Rattle.core_reader.specs.Machine.{Reading, state}
+use Rattle.core_reader.specs.Machine.{Reading, state, run, start}
 use Rattle.core_reader.specs.declared.state.Goal.{Goal}
 use Rattle.hy_core.specs.declared.refusal.RefusalKind.TheVariants.{Unexpected}
 use Rattle.core_reader.specs.declared.state.State.{State}
@@ -48,3 +54,36 @@ GivesGoal (Ok (Some goal)) r o = o ≡ Some (state (goal ∷ r.goals) r.values r
 GivesGoal (Ok None) r o = o ≡ Some (state [] r.values r.tables)
 GivesGoal (Err (steps.Refused kind)) r o = (kind ≡ Unexpected) × (o ≡ None)
 GivesGoal (Err steps.Memory) r o = Unit {0}
+
+-- ---- the verdict on a text, by what is read of its tokens
+
+abbrev pub left_at : Option Lexeme → ℕ
+left_at None = 0
+left_at (Some l) = l.left
+
+-- where no token is wrong, the end of the text decides
+abbrev pub behind : ℕ → Ending → Verdict → Verdict
+behind size ends.Clean v = v
+behind size ends.Open v = Err (kinds.Ended, size)
+behind size (ends.Bad left) v = Err (kinds.BadToken, size - left)
+
+-- the place of a token
+abbrev pub place_of : ℕ → List Lexeme → ℕ → ℕ
+place_of size ls n = size - left_at (slice_get ls n)
+
+abbrev pub refused_as : ℕ → List Lexeme → Ending → RefusalKind → ℕ → Verdict
+refused_as size ls end kinds.Ended n = behind size end (Err (kinds.Ended, size))
+refused_as size ls end kind n = Err (kind, place_of size ls n)
+
+abbrev pub verdict : ℕ → List Lexeme → Ending → Reading → Verdict
+verdict size ls end (Ok z) = behind size end (Ok z)
+verdict size ls end (Err fault) = refused_as size ls end fault.0 fault.1
+
+-- the answer is the verdict on the text, or want of memory
+abbrev pub GivesTokens : Result Module ReadAnswer → List ℕ → List Lexeme → Ending → Type 0
+GivesTokens result bytes ls end = Gives result (verdict (length bytes) ls end (run 0 (tokens_in ls) start))
+
+pub data GivesText (result : Result Module ReadAnswer) (bytes : List ℕ) : Type 0 where
+  too_long : 2 ^ 20 < length bytes → Gives result (Err (kinds.TooLong, 2 ^ 20)) → GivesText result bytes
+  of_tokens : (ls : List Lexeme) (end : Ending) → length bytes ≤ 2 ^ 20 → Lexes bytes ls end → AreWithin (length bytes) ls → EndsWithin (length bytes) end → GivesTokens result bytes ls end → GivesText result bytes
+  no_memory : result ≡ Err Memory → GivesText result bytes
