@@ -1,12 +1,12 @@
 -- What the parts of an arithmetic expression are built of.
-use Rattle.std.proofs.Common.{◌≡◌, ◌⊎◌, ℕ, ℤ, List, [], ◌∷◌, Some, refl, sym, ap, subst, ◌∙◌, inl, inr}
+use Rattle.std.proofs.Common.{◌≡◌, ◌⊎◌, ℕ, ◌-◌, ◌^◌, ℤ, pos, neg_ℤ, ◌≤ℤ◌, List, [], ◌∷◌, Some, refl, sym, ap, subst, ◌∙◌, inl, inr}
 use Rattle.std.specs.Prelude.{Contains, slice_get}
 use Rattle.hy_core.specs.Built.{IsBuilt, integer, variable, let_in, do_both, sum, display}
 use Rattle.hy_core.specs.Built.{the_erlang, the_plus, the_display}
 use Rattle.hy_core.specs.declared.tree.Expr.{Expr}
 use Rattle.hy_core.specs.declared.tree.Expr.TheVariants as e
 use Rattle.hy_core.specs.declared.tree.Expr.TheOpen as layer
-use Rattle.hy_core.specs.declared.tree.Expr.TheViews.{out-Expr, outs-Var, outs-Let, outs-Do, outs-Call, outs-Atom}
+use Rattle.hy_core.specs.declared.tree.Expr.TheViews.{out-Expr, outs-Int, outs-Var, outs-Let, outs-Do, outs-Call, outs-Atom}
 
 let_from : {atoms : List (List ℕ)} {bound : List ℕ} {z : Expr} → IsBuilt atoms bound z → (xs : List ℕ) (x y : Expr) → z ≡ e.Let xs x y → (v : ℕ) × (xs ≡ v ∷ []) × IsBuilt atoms bound x × IsBuilt atoms (v ∷ bound) y
 let_from (integer n low high) xs x y h = absurd cc
@@ -32,6 +32,17 @@ do_from {atoms = atoms} {bound = bound} (do_both {x = p} {y = q} d1 d2) x y h =
     (subst (λ (k : Expr). IsBuilt atoms bound k) first d1, subst (λ (k : Expr). IsBuilt atoms bound k) second d2)
 do_from (sum m k p q d1 d2) x y h = absurd cc
 do_from (display m k p q d1) x y h = absurd cc
+
+integer_from : {atoms : List (List ℕ)} {bound : List ℕ} {z : Expr} → IsBuilt atoms bound z → (n : ℤ) → z ≡ e.Int n → (neg_ℤ (pos (2 ^ 59)) ≤ℤ n) × (n ≤ℤ pos (2 ^ 59 - 1))
+integer_from (integer m low high) n h =
+    let same : layer.Int m ≡ layer.Int n = sym (outs-Int m) ∙ ap out-Expr h ∙ outs-Int n in
+    let this : m ≡ n = cc in
+    (subst (λ (k : ℤ). neg_ℤ (pos (2 ^ 59)) ≤ℤ k) this low, subst (λ (k : ℤ). k ≤ℤ pos (2 ^ 59 - 1)) this high)
+integer_from (variable v is) n h = absurd cc
+integer_from (let_in v d1 d2) n h = absurd cc
+integer_from (do_both d1 d2) n h = absurd cc
+integer_from (sum m k p q d1 d2) n h = absurd cc
+integer_from (display m k p q d1) n h = absurd cc
 
 variable_from : {atoms : List (List ℕ)} {bound : List ℕ} {z : Expr} → IsBuilt atoms bound z → (x : ℕ) → z ≡ e.Var x → Contains bound x
 variable_from (integer n low high) x h = absurd cc
@@ -80,6 +91,9 @@ call_from (sum {x = x} {y = y} a b p q d1 d2) m k args h =
 call_from (display {x = x} a b p q d1) m k args h =
     let same : layer.Call (e.Atom a) (e.Atom b) (x ∷ []) ≡ layer.Call m k args = sym (outs-Call (e.Atom a) (e.Atom b) (x ∷ [])) ∙ ap out-Expr h ∙ outs-Call m k args in
     inl (record { module_atom = a; name_atom = b; part = x; is_module = cc; is_name = cc; is_args = cc; erlang = p; name = q; built = d1 })
+
+pub integer_parts : {atoms : List (List ℕ)} {bound : List ℕ} (n : ℤ) → IsBuilt atoms bound (e.Int n) → (neg_ℤ (pos (2 ^ 59)) ≤ℤ n) × (n ≤ℤ pos (2 ^ 59 - 1))
+integer_parts n d = integer_from d n refl
 
 pub variable_parts : {atoms : List (List ℕ)} {bound : List ℕ} (x : ℕ) → IsBuilt atoms bound (e.Var x) → Contains bound x
 variable_parts x d = variable_from d x refl

@@ -5,12 +5,11 @@ use Rattle.std.proofs.lemmas.List.{append-nil}
 use Rattle.std.specs.Prelude.{unwrap_or}
 use Rattle.hy_terms.specs.Term.{Term}
 use Rattle.hy_terms.specs.Naming.{text_of}
-use Rattle.hy_core.specs.Built.{IsBuilt}
+use Rattle.hy_core.specs.Built.{IsBuilt, the_erlang, the_plus, the_display}
 use Rattle.hy_core.specs.BuiltIn.{answer}
 use Rattle.hy_core.specs.Computation.{Input, Result, then_run, with_one}
 use Rattle.hy_core.specs.Evaluation.{Wait, answer_end, value_end}
 use Rattle.hy_core.specs.Event.{Event, Printed}
-use Rattle.hy_core.specs.Grammar.{the_erlang, the_plus, the_display}
 use Rattle.hy_core.specs.Match.{Env, Bound, lookup}
 use Rattle.hy_core.specs.Meaning.{meaning, inside, first_argument}
 use Rattle.hy_core.specs.Resolve.{place_after}
