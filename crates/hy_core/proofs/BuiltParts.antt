@@ -107,15 +107,6 @@ do_parts x y d = do_from d x y refl
 pub call_parts : {atoms : List (List ℕ)} {bound : List ℕ} (m k : Expr) (args : List Expr) → IsBuilt atoms bound (e.Call m k args) → IsDisplay atoms bound m k args ⊎ IsSum atoms bound m k args
 call_parts m k args d = call_from d m k args refl
 
--- it is of one of the six forms
-pub no_other : {atoms : List (List ℕ)} {bound : List ℕ} {z : Expr} → IsBuilt atoms bound z → ((n : ℤ) → z ≡ e.Int n → ⊥) → ((x : ℕ) → z ≡ e.Var x → ⊥) → ((xs : List ℕ) (x y : Expr) → z ≡ e.Let xs x y → ⊥) → ((x y : Expr) → z ≡ e.Do x y → ⊥) → ((m k : Expr) (args : List Expr) → z ≡ e.Call m k args → ⊥) → ⊥
-no_other (integer n low high) i v l d c = i n refl
-no_other (variable x is) i v l d c = v x refl
-no_other (let_in {x = p} {y = q} x d1 d2) i v l d c = l (x ∷ []) p q refl
-no_other (do_both {x = p} {y = q} d1 d2) i v l d c = d p q refl
-no_other (sum {x = x} {y = y} a b p q d1 d2) i v l d c = c (e.Atom a) (e.Atom b) (x ∷ y ∷ []) refl
-no_other (display {x = x} a b p q d1) i v l d c = c (e.Atom a) (e.Atom b) (x ∷ []) refl
-
 -- an atom stands for one number
 pub atom_same : (a b : ℕ) → e.Atom a ≡ e.Atom b → a ≡ b
 atom_same a b h = let same : layer.Atom a ≡ layer.Atom b = sym (outs-Atom a) ∙ ap out-Expr h ∙ outs-Atom b in cc

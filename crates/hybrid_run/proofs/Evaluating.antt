@@ -19,7 +19,7 @@ use Rattle.hy_core.specs.declared.tree.Expr.{Expr}
 use Rattle.hy_core.specs.declared.tree.Expr.TheVariants as e
 use Rattle.hy_core.proofs.BuiltParts.{atom_same, let_parts, do_parts, call_parts, IsDisplay, IsSum}
 use Rattle.hy_core.proofs.Meanings.{meaning-Int, meaning-Var, meaning-Let, meaning-Do, meaning-plus, meaning-display}
-use Rattle.hybrid_run.specs.Arithmetic.{term_of, outcome_of, env_of, variables_of, displays, Evaluates, EvaluatesUnder, EvaluatesCall, IsCall}
+use Rattle.hybrid_run.specs.Arithmetic.{term_of, outcome_of, env_of, variables_of, displays, Evaluates, EvaluatesUnder, EvaluatesCall}
 use Rattle.hybrid_run.specs.declared.evaluate.Binding.{Binding}
 use Rattle.hybrid_run.specs.declared.value.Value.{Value}
 use Rattle.hybrid_run.specs.declared.value.Value.TheVariants.{Int, True}
@@ -273,14 +273,7 @@ pub call_evaluates : (m k : Expr) (args : List Expr) (bindings : List Binding) (
 call_evaluates m k args bindings before now ending a b p q h =
     subst (λ (z : Expr). Evaluates (e.Call z k args) bindings before now ending) (sym p) (subst (λ (z : Expr). Evaluates (e.Call (e.Atom a) z args) bindings before now ending) (sym q) (h a b))
 
--- the module and the name of a call are atoms, and its arguments are built
-pub call_of : (atoms : List (List ℕ)) (bound : List ℕ) (m k : Expr) (args : List Expr) → IsBuilt atoms bound (e.Call m k args) → IsCall atoms bound args
-call_of atoms bound m k args built = of_call (call_parts m k args built)
-  where
-    of_call : IsDisplay atoms bound m k args ⊎ IsSum atoms bound m k args → IsCall atoms bound args
-    of_call (inl d) = subst (λ (u : List Expr). IsCall atoms bound u) (sym d.is_args) d.built
-    of_call (inr s) = subst (λ (u : List Expr). IsCall atoms bound u) (sym s.is_args) (s.built_left, s.built_right)
-
+-- the module and the name of a call are atoms
 pub module_of : (atoms : List (List ℕ)) (bound : List ℕ) (m k : Expr) (args : List Expr) → IsBuilt atoms bound (e.Call m k args) → (a b : ℕ) × (m ≡ e.Atom a) × (k ≡ e.Atom b)
 module_of atoms bound m k args built = of_call (call_parts m k args built)
   where

@@ -48,7 +48,7 @@ pub fn hybrid<R: Threads, S: Sources, K: Sink, G: Gate>(
     ensures cut { IfSome (told_text (S.told sources.old) words.now) (λ text. (z : Module) → IsModuleText text z →
         result.status ≡ 7 → Cut z (K.written sink.old) (K.written sink.new)) }
 
-    // A text that is no module of the arithmetic part has no run, and every other has one.
+    // A text that is no module of the arithmetic part has no run, and status 3 comes for no other.
     ensures refuses { IfSome (told_text (S.told sources.old) words.now) (λ text. HasNoBuiltModule text →
         Contains (3 ∷ 6 ∷ 8 ∷ []) result.status) }
     ensures refuses_only { IfSome (told_text (S.told sources.old) words.now) (λ text. result.status ≡ 3 → HasNoBuiltModule text) }
