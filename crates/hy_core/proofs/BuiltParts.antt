@@ -1,12 +1,12 @@
 -- What the parts of an arithmetic expression are built of.
-use Rattle.std.proofs.Common.{◌≡◌, ◌⊎◌, ℕ, ℤ, List, [], ◌∷◌, Some, refl, sym, ap, subst, ◌∙◌, inl, inr}
+use Rattle.std.proofs.Common.{◌≡◌, ◌⊎◌, ℕ, ◌-◌, ◌^◌, ℤ, pos, neg_ℤ, ◌≤ℤ◌, List, [], ◌∷◌, Some, refl, sym, ap, subst, ◌∙◌, inl, inr}
 use Rattle.std.specs.Prelude.{Contains, slice_get}
 use Rattle.hy_core.specs.Built.{IsBuilt, integer, variable, let_in, do_both, sum, display}
 use Rattle.hy_core.specs.Built.{the_erlang, the_plus, the_display}
 use Rattle.hy_core.specs.declared.tree.Expr.{Expr}
 use Rattle.hy_core.specs.declared.tree.Expr.TheVariants as e
 use Rattle.hy_core.specs.declared.tree.Expr.TheOpen as layer
-use Rattle.hy_core.specs.declared.tree.Expr.TheViews.{out-Expr, outs-Var, outs-Let, outs-Do, outs-Call, outs-Atom}
+use Rattle.hy_core.specs.declared.tree.Expr.TheViews.{out-Expr, outs-Int, outs-Var, outs-Let, outs-Do, outs-Call, outs-Atom}
 
 let_from : {atoms : List (List ℕ)} {bound : List ℕ} {z : Expr} → IsBuilt atoms bound z → (xs : List ℕ) (x y : Expr) → z ≡ e.Let xs x y → (v : ℕ) × (xs ≡ v ∷ []) × IsBuilt atoms bound x × IsBuilt atoms (v ∷ bound) y
 let_from (integer n low high) xs x y h = absurd cc
@@ -32,6 +32,17 @@ do_from {atoms = atoms} {bound = bound} (do_both {x = p} {y = q} d1 d2) x y h =
     (subst (λ (k : Expr). IsBuilt atoms bound k) first d1, subst (λ (k : Expr). IsBuilt atoms bound k) second d2)
 do_from (sum m k p q d1 d2) x y h = absurd cc
 do_from (display m k p q d1) x y h = absurd cc
+
+integer_from : {atoms : List (List ℕ)} {bound : List ℕ} {z : Expr} → IsBuilt atoms bound z → (n : ℤ) → z ≡ e.Int n → (neg_ℤ (pos (2 ^ 59)) ≤ℤ n) × (n ≤ℤ pos (2 ^ 59 - 1))
+integer_from (integer m low high) n h =
+    let same : layer.Int m ≡ layer.Int n = sym (outs-Int m) ∙ ap out-Expr h ∙ outs-Int n in
+    let this : m ≡ n = cc in
+    (subst (λ (k : ℤ). neg_ℤ (pos (2 ^ 59)) ≤ℤ k) this low, subst (λ (k : ℤ). k ≤ℤ pos (2 ^ 59 - 1)) this high)
+integer_from (variable v is) n h = absurd cc
+integer_from (let_in v d1 d2) n h = absurd cc
+integer_from (do_both d1 d2) n h = absurd cc
+integer_from (sum m k p q d1 d2) n h = absurd cc
+integer_from (display m k p q d1) n h = absurd cc
 
 variable_from : {atoms : List (List ℕ)} {bound : List ℕ} {z : Expr} → IsBuilt atoms bound z → (x : ℕ) → z ≡ e.Var x → Contains bound x
 variable_from (integer n low high) x h = absurd cc
@@ -81,6 +92,9 @@ call_from (display {x = x} a b p q d1) m k args h =
     let same : layer.Call (e.Atom a) (e.Atom b) (x ∷ []) ≡ layer.Call m k args = sym (outs-Call (e.Atom a) (e.Atom b) (x ∷ [])) ∙ ap out-Expr h ∙ outs-Call m k args in
     inl (record { module_atom = a; name_atom = b; part = x; is_module = cc; is_name = cc; is_args = cc; erlang = p; name = q; built = d1 })
 
+pub integer_parts : {atoms : List (List ℕ)} {bound : List ℕ} (n : ℤ) → IsBuilt atoms bound (e.Int n) → (neg_ℤ (pos (2 ^ 59)) ≤ℤ n) × (n ≤ℤ pos (2 ^ 59 - 1))
+integer_parts n d = integer_from d n refl
+
 pub variable_parts : {atoms : List (List ℕ)} {bound : List ℕ} (x : ℕ) → IsBuilt atoms bound (e.Var x) → Contains bound x
 variable_parts x d = variable_from d x refl
 
@@ -92,15 +106,6 @@ do_parts x y d = do_from d x y refl
 
 pub call_parts : {atoms : List (List ℕ)} {bound : List ℕ} (m k : Expr) (args : List Expr) → IsBuilt atoms bound (e.Call m k args) → IsDisplay atoms bound m k args ⊎ IsSum atoms bound m k args
 call_parts m k args d = call_from d m k args refl
-
--- it is of one of the six forms
-pub no_other : {atoms : List (List ℕ)} {bound : List ℕ} {z : Expr} → IsBuilt atoms bound z → ((n : ℤ) → z ≡ e.Int n → ⊥) → ((x : ℕ) → z ≡ e.Var x → ⊥) → ((xs : List ℕ) (x y : Expr) → z ≡ e.Let xs x y → ⊥) → ((x y : Expr) → z ≡ e.Do x y → ⊥) → ((m k : Expr) (args : List Expr) → z ≡ e.Call m k args → ⊥) → ⊥
-no_other (integer n low high) i v l d c = i n refl
-no_other (variable x is) i v l d c = v x refl
-no_other (let_in {x = p} {y = q} x d1 d2) i v l d c = l (x ∷ []) p q refl
-no_other (do_both {x = p} {y = q} d1 d2) i v l d c = d p q refl
-no_other (sum {x = x} {y = y} a b p q d1 d2) i v l d c = c (e.Atom a) (e.Atom b) (x ∷ y ∷ []) refl
-no_other (display {x = x} a b p q d1) i v l d c = c (e.Atom a) (e.Atom b) (x ∷ []) refl
 
 -- an atom stands for one number
 pub atom_same : (a b : ℕ) → e.Atom a ≡ e.Atom b → a ≡ b

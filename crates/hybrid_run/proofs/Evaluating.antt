@@ -5,12 +5,11 @@ use Rattle.std.proofs.lemmas.List.{append-nil}
 use Rattle.std.specs.Prelude.{unwrap_or}
 use Rattle.hy_terms.specs.Term.{Term}
 use Rattle.hy_terms.specs.Naming.{text_of}
-use Rattle.hy_core.specs.Built.{IsBuilt}
+use Rattle.hy_core.specs.Built.{IsBuilt, the_erlang, the_plus, the_display}
 use Rattle.hy_core.specs.BuiltIn.{answer}
 use Rattle.hy_core.specs.Computation.{Input, Result, then_run, with_one}
 use Rattle.hy_core.specs.Evaluation.{Wait, answer_end, value_end}
 use Rattle.hy_core.specs.Event.{Event, Printed}
-use Rattle.hy_core.specs.Grammar.{the_erlang, the_plus, the_display}
 use Rattle.hy_core.specs.Match.{Env, Bound, lookup}
 use Rattle.hy_core.specs.Meaning.{meaning, inside, first_argument}
 use Rattle.hy_core.specs.Resolve.{place_after}
@@ -20,7 +19,7 @@ use Rattle.hy_core.specs.declared.tree.Expr.{Expr}
 use Rattle.hy_core.specs.declared.tree.Expr.TheVariants as e
 use Rattle.hy_core.proofs.BuiltParts.{atom_same, let_parts, do_parts, call_parts, IsDisplay, IsSum}
 use Rattle.hy_core.proofs.Meanings.{meaning-Int, meaning-Var, meaning-Let, meaning-Do, meaning-plus, meaning-display}
-use Rattle.hybrid_run.specs.Arithmetic.{term_of, outcome_of, env_of, variables_of, displays, Evaluates, EvaluatesUnder, EvaluatesCall, IsCall}
+use Rattle.hybrid_run.specs.Arithmetic.{term_of, outcome_of, env_of, variables_of, displays, Evaluates, EvaluatesUnder, EvaluatesCall}
 use Rattle.hybrid_run.specs.declared.evaluate.Binding.{Binding}
 use Rattle.hybrid_run.specs.declared.value.Value.{Value}
 use Rattle.hybrid_run.specs.declared.value.Value.TheVariants.{Int, True}
@@ -274,14 +273,7 @@ pub call_evaluates : (m k : Expr) (args : List Expr) (bindings : List Binding) (
 call_evaluates m k args bindings before now ending a b p q h =
     subst (λ (z : Expr). Evaluates (e.Call z k args) bindings before now ending) (sym p) (subst (λ (z : Expr). Evaluates (e.Call (e.Atom a) z args) bindings before now ending) (sym q) (h a b))
 
--- the module and the name of a call are atoms, and its arguments are built
-pub call_of : (atoms : List (List ℕ)) (bound : List ℕ) (m k : Expr) (args : List Expr) → IsBuilt atoms bound (e.Call m k args) → IsCall atoms bound args
-call_of atoms bound m k args built = of_call (call_parts m k args built)
-  where
-    of_call : IsDisplay atoms bound m k args ⊎ IsSum atoms bound m k args → IsCall atoms bound args
-    of_call (inl d) = subst (λ (u : List Expr). IsCall atoms bound u) (sym d.is_args) d.built
-    of_call (inr s) = subst (λ (u : List Expr). IsCall atoms bound u) (sym s.is_args) (s.built_left, s.built_right)
-
+-- the module and the name of a call are atoms
 pub module_of : (atoms : List (List ℕ)) (bound : List ℕ) (m k : Expr) (args : List Expr) → IsBuilt atoms bound (e.Call m k args) → (a b : ℕ) × (m ≡ e.Atom a) × (k ≡ e.Atom b)
 module_of atoms bound m k args built = of_call (call_parts m k args built)
   where

@@ -3,6 +3,9 @@ pub mod Counts
 pub mod Evaluating
 pub mod Finishing
 pub mod Lists
+pub mod Modules
+pub mod Parts
+pub mod Reading
 pub mod Running
 pub mod Texts
 pub mod Written

@@ -4,21 +4,19 @@ use Rattle.std.proofs.lemmas.List.{append-nil}
 use Rattle.hy_terms.specs.Term.{Term}
 use Rattle.hy_terms.specs.TermText.{term_text}
 use Rattle.hy_core.specs.Alone.{events_from, lines_of}
-use Rattle.hy_core.specs.Built.{IsBuilt, IsBuiltModule, built}
+use Rattle.hy_core.specs.Built.{IsBuilt, IsBuiltModule, built, main_module}
 use Rattle.hy_core.specs.BuiltIn.{own_atoms}
 use Rattle.hy_core.specs.Event.{Event, Printed}
 use Rattle.hy_core.specs.Evaluation.{Evaluated}
 use Rattle.hy_core.specs.FullRun.{NeverStopped, runs_of}
-use Rattle.hy_core.specs.Grammar.{main_module}
 use Rattle.hy_core.specs.Output.{outcome_line}
 use Rattle.hy_core.specs.declared.class.Class.TheVariants.{Error}
 use Rattle.hy_core.specs.declared.tables.Tables.{Tables}
 use Rattle.hy_core.specs.declared.tree.Expr.{Expr}
+use Rattle.hy_core.specs.declared.tree.FunName.{FunName}
 use Rattle.hy_core.specs.declared.tree.Function.{Function}
 use Rattle.hy_core.specs.declared.tree.Module.{Module}
 use Rattle.hybrid_run.specs.declared.evaluate.Binding.{Binding}
-use Rattle.hy_core.specs.declared.step.Step.{Step}
-use Rattle.hy_core.specs.declared.end.End.{End}
 use Rattle.hy_core.proofs.AloneLemmas.{prints_and_ends, prints_and_raises}
 use Rattle.hy_core.proofs.MainLemmas.{main_does}
 use Rattle.hybrid_run.specs.Arithmetic.{term_of, reason_of, outcome_of, displays, value_text, end_of, output_of, printed_lines, EvaluatesTo, Evaluates}
@@ -40,16 +38,16 @@ output_is values ending =
     ap (λ (k : List (List ℕ)). lines_of k ++ (outcome_line 0 (end_of ending) ++ [])) (texts_of values)
     ∙ ap (λ (k : List ℕ). printed_lines values ++ k) (append-nil (outcome_line 0 (end_of ending)))
 
-module _ (name main : ℕ) (x : Expr) (s : Tables) where
+module _ (name : ℕ) (exports : List FunName) (main : ℕ) (x : Expr) (s : Tables) where
   abbrev whole : Module
-  whole = main_module name main x s
+  whole = main_module name exports main x s
 
   abbrev does : Evaluated (program_of whole) own_atoms 0
   does = runs_of (program_of whole) own_atoms calls_limit 0 0 [] []
 
   comes : (values : List Value) (ending : Ending) → EvaluatesTo x [] values ending → IsBuilt s.atoms [] x → does ≡ record { events = displays values; calls = calls_limit; inputs = []; end = outcome_of ending }
   comes values ending to d =
-      main_does own_atoms calls_limit (names_of whole) name main x s
+      main_does own_atoms calls_limit (names_of whole) name exports main x s
       ∙ to.means (program_of whole) own_atoms (names_of whole) name 0 [] (record { node = 0; site = 0 }) calls_limit [] d
 
   run_with : (values : List Value) (ending : Ending) → EvaluatesTo x [] values ending → IsBuilt s.atoms [] x → HasRun whole values ending
@@ -73,15 +71,15 @@ module _ (name main : ℕ) (x : Expr) (s : Tables) where
 
 -- the body of the one function is built
 pub body_built : (z : Module) → IsBuiltModule z → (f : Function) → f ≡ get_or z.functions 0 f → IsBuilt z.atoms [] f.body
-body_built _ (built {name = name} {main = main} {x = x} {s = s} is d) f h =
+body_built _ (built {name = name} {main = main} {exports = exports} {x = x} {s = s} is exported d) f h =
     let body : f.body ≡ x = ap (λ (k : Function). k.body) h in
     subst (λ (k : Expr). IsBuilt s.atoms [] k) (sym body) d
 
 -- what the body comes to is the run of the module
 pub module_runs : (z : Module) → IsBuiltModule z → (f : Function) → f ≡ get_or z.functions 0 f → (values : List Value) (ending : Ending) → Evaluates f.body [] [] values ending → HasRun z values ending
-module_runs _ (built {name = name} {main = main} {x = x} {s = s} is d) f h values ending e =
+module_runs _ (built {name = name} {main = main} {exports = exports} {x = x} {s = s} is exported d) f h values ending e =
     let body : f.body ≡ x = ap (λ (k : Function). k.body) h in
-    body_runs name main x s values ending (subst (λ (k : Expr). Evaluates k [] [] values ending) body e) d
+    body_runs name exports main x s values ending (subst (λ (k : Expr). Evaluates k [] [] values ending) body e) d
 
 pub from_nothing : (x : Expr) (bindings : List Binding) (before now : List Value) (ending : Ending) → bindings ≡ [] → before ≡ [] → Evaluates x bindings before now ending → Evaluates x [] [] now ending
 from_nothing x bindings before now ending p q e =

@@ -1,7 +1,10 @@
 -- The lines for faults. This project's own.
-use Rattle.std.specs.Prelude.{◌≡◌, ℕ, ◌<◌, ◌==◌, if◌then◌else◌, List, [], ◌∷◌, ◌++◌, codes, slice_get, unwrap_or, Option, Some, None, Result, Ok, Err}
+use Rattle.std.specs.Prelude.{◌≡◌, ℕ, ◌<◌, List, [], ◌∷◌, ◌++◌, codes, slice_get, unwrap_or, Option, Some, None, Result, Ok, Err, Contains}
+use Rattle.std.specs.Fmt.{decimal}
+use Rattle.hy_core.specs.declared.refusal.RefusalKind.{RefusalKind}
+use Rattle.hy_core.specs.declared.refusal.RefusalKind.TheVariants as k
 use Rattle.hybrid_run.specs.declared.fault.TopFault.{TopFault}
-use Rattle.hybrid_run.specs.declared.fault.TopFault.TheVariants.{Usage, Read, NotBuilt, Write, Memory}
+use Rattle.hybrid_run.specs.declared.fault.TopFault.TheVariants.{Usage, Read, Refused, NotBuilt, Write, Memory}
 
 abbrev pub line : List ℕ → List ℕ
 line text = text ++ 10 ∷ []
@@ -9,10 +12,30 @@ line text = text ++ 10 ∷ []
 abbrev pub read_fault_text : List ℕ → List ℕ
 read_fault_text name = codes "hyb: cannot read " ++ name ++ 10 ∷ []
 
+-- a kind of refusal, by its name
+abbrev pub kind_name : RefusalKind → List ℕ
+kind_name k.BadToken = codes "BadToken"
+kind_name k.Unexpected = codes "Unexpected"
+kind_name k.Ended = codes "Ended"
+kind_name k.NumberRange = codes "NumberRange"
+kind_name k.TooDeep = codes "TooDeep"
+kind_name k.TooLong = codes "TooLong"
+
+abbrev pub refusal_text : List ℕ → RefusalKind → ℕ → List ℕ
+refusal_text name kind place = codes "hyb: " ++ name ++ codes ": " ++ kind_name kind ++ codes " at " ++ decimal place ++ 10 ∷ []
+
+-- the refusal of the one file's text
+abbrev pub refused_at : RefusalKind → ℕ → TopFault
+refused_at kind place = Refused 0 (record { kind = kind; place = place })
+
+abbrev file_name : List (List ℕ) → ℕ → List ℕ
+file_name files file = unwrap_or (slice_get files file) []
+
 -- the line for a fault, given the file words
 abbrev pub text_of_fault : TopFault → List (List ℕ) → List ℕ
 text_of_fault Usage files = line (codes "hyb: usage")
-text_of_fault (Read file) files = read_fault_text (unwrap_or (slice_get files file) [])
+text_of_fault (Read file) files = read_fault_text (file_name files file)
+text_of_fault (Refused file refused) files = refusal_text (file_name files file) refused.kind refused.place
 text_of_fault NotBuilt files = line (codes "hyb: not built")
 text_of_fault Write files = line (codes "hyb: write failed")
 text_of_fault Memory files = line (codes "hyb: out of memory")
@@ -20,6 +43,7 @@ text_of_fault Memory files = line (codes "hyb: out of memory")
 -- the file that the fault names is one of so many
 abbrev pub IsOfFiles : TopFault → ℕ → Type 0
 IsOfFiles (Read file) count = file < count
+IsOfFiles (Refused file refused) count = file < count
 IsOfFiles _ count = Unit {0}
 
 -- what may come while the output is written
@@ -28,36 +52,35 @@ IsOfOutput Write = Unit {0}
 IsOfOutput Memory = Unit {0}
 IsOfOutput _ = ⊥
 
--- what may come of a text
+-- what may come of a module
+abbrev pub IsOfModule : TopFault → Type 0
+IsOfModule NotBuilt = Unit {0}
+IsOfModule Write = Unit {0}
+IsOfModule Memory = Unit {0}
+IsOfModule _ = ⊥
+
+-- what may come of the text of the one file
 abbrev pub IsOfText : TopFault → Type 0
-IsOfText NotBuilt = Unit {0}
-IsOfText Write = Unit {0}
-IsOfText Memory = Unit {0}
-IsOfText _ = ⊥
+IsOfText Usage = ⊥
+IsOfText (Read file) = ⊥
+IsOfText (Refused file refused) = file ≡ 0
+IsOfText _ = Unit {0}
 
 -- what may come of the one file
 abbrev pub IsOfFile : TopFault → Type 0
 IsOfFile Usage = ⊥
 IsOfFile (Read file) = file ≡ 0
+IsOfFile (Refused file refused) = file ≡ 0
 IsOfFile _ = Unit {0}
 
 -- the status of the program for a fault
 abbrev pub status_of_fault : TopFault → ℕ
 status_of_fault Usage = 2
+status_of_fault (Refused file refused) = 3
 status_of_fault NotBuilt = 3
 status_of_fault (Read file) = 6
 status_of_fault Write = 7
 status_of_fault Memory = 8
-
--- the fault that a status names
-abbrev pub refused_of : ℕ → Option TopFault
-refused_of status =
-    if status == 2 then Some Usage
-    else if status == 3 then Some NotBuilt
-    else if status == 6 then Some (Read 0)
-    else if status == 7 then Some Write
-    else if status == 8 then Some Memory
-    else None
 
 -- the status of an answer, and the fault in it
 abbrev pub status_of_answer : Result ℕ TopFault → ℕ
@@ -72,8 +95,19 @@ fault_of_answer (Err fault) = Some fault
 abbrev pub IsSilent : TopFault → Type 0
 IsSilent Usage = Unit {0}
 IsSilent NotBuilt = Unit {0}
+IsSilent (Refused file refused) = Unit {0}
 IsSilent (Read file) = Unit {0}
 IsSilent _ = ⊥
+
+-- a text or a module that isn't run
+abbrev pub IsRefusal : TopFault → Type 0
+IsRefusal NotBuilt = Unit {0}
+IsRefusal (Refused file refused) = Unit {0}
+IsRefusal _ = ⊥
+
+-- it is this fault, unless the text can't be read or memory runs out
+abbrev pub FailsWith : TopFault → Result ℕ TopFault → Type 0
+FailsWith fault answer = Contains (Err fault ∷ Err (Read 0) ∷ Err Memory ∷ []) answer
 
 -- the run began to write
 abbrev pub HasWritten : Result ℕ TopFault → Type 0

@@ -1,17 +1,23 @@
 -- The run of a module of the arithmetic forms, as the copying machine has it.
-use Rattle.std.specs.Prelude.{◌≡◌, ℕ, ◌<◌, ◌^◌, List, [], ◌∷◌, Option, None, Contains}
+use Rattle.std.specs.Prelude.{◌≡◌, ℕ, ◌<◌, ◌^◌, List, [], ◌∷◌, Option, Some, None, Contains}
+use Rattle.hy_core.specs.Built.{IsBuiltModule}
 use Rattle.hy_core.specs.BuiltIn.{own_atoms}
 use Rattle.hy_core.specs.FullRun.{NeverStopped, IsFullRun}
 use Rattle.hy_core.specs.Reading.{IsModuleText}
+use Rattle.hy_core.specs.Refusals.{IsRefusedText}
 use Rattle.hy_core.specs.Resolve.{Names, function_trees}
 use Rattle.hy_core.specs.Resolved.{FunctionTree}
 use Rattle.hy_core.specs.declared.end.End.{End}
 use Rattle.hy_core.specs.declared.end.End.TheVariants.{Ended, Raised, Waits, Stopped}
+use Rattle.hy_core.specs.declared.refusal.RefusalKind.{RefusalKind}
 use Rattle.hy_core.specs.declared.step.Step.{Step}
 use Rattle.hy_core.specs.declared.tree.Module.{Module}
 use Rattle.hybrid_run.specs.Arithmetic.{end_of, output_of}
+use Rattle.hybrid_run.specs.Faults.{refused_at}
 use Rattle.hybrid_run.specs.FileWords.{file_words}
 use Rattle.hybrid_run.specs.Outside.{Appends, AppendsPrefix}
+use Rattle.hybrid_run.specs.declared.fault.TopFault.{TopFault}
+use Rattle.hybrid_run.specs.declared.fault.TopFault.TheVariants as f
 use Rattle.hybrid_run.specs.declared.value.Value.{Value}
 use Rattle.hybrid_run.specs.declared.value.Ending.{Ending}
 
@@ -59,9 +65,17 @@ pub record Cut (z : Module) (before now : Option (List ℕ)) : Type 0 where
   pub full : IsModuleRun z steps (end ∷ []) output
   pub written : AppendsPrefix before now output
 
--- the text is no module of the arithmetic forms
-abbrev pub HasNoModule : List ℕ → Type 0
-HasNoModule text = (z : Module) → IsModuleText text z → ⊥
+-- the text is a module of the arithmetic part
+abbrev pub IsBuiltText : List ℕ → Type 0
+IsBuiltText text = (z : Module) × IsModuleText text z × IsBuiltModule z
+
+-- the text is a module, and not of the arithmetic part
+abbrev pub IsOtherText : List ℕ → Type 0
+IsOtherText text = (z : Module) × IsModuleText text z × (IsBuiltModule z → ⊥)
+
+-- the text is no module of the arithmetic part
+abbrev pub HasNoBuiltModule : List ℕ → Type 0
+HasNoBuiltModule text = (z : Module) → IsModuleText text z → IsBuiltModule z → ⊥
 
 -- the text of the one file, where the sources tell it
 abbrev pub text_of_file : (List ℕ → Option (List ℕ)) → List (List ℕ) → Option (List ℕ)
@@ -75,6 +89,13 @@ told_text told words = text_of_file told (file_words words)
 abbrev pub IsRunStatus : ℕ → Type 0
 IsRunStatus status = status < 2
 
--- usage, not built and a read fault, with which nothing is written
+-- What is answered for each text, where nothing outside fails: the run of a module of the arithmetic
+-- part comes to its end, another module isn't built, and what is no module is refused; or memory runs out.
+pub record IsAnswered (text : List ℕ) (status : ℕ) (refused : Option TopFault) : Type 0 where
+  pub runs : IsBuiltText text → Contains (0 ∷ 1 ∷ 8 ∷ []) status
+  pub not_built : IsOtherText text → Contains (Some f.NotBuilt ∷ Some f.Memory ∷ []) refused
+  pub source : (kind : RefusalKind) (place : ℕ) → IsRefusedText text kind place → Contains (Some (refused_at kind place) ∷ Some f.Memory ∷ []) refused
+
+-- usage, a text without a run and a read fault, with which nothing is written
 abbrev pub IsSilentStatus : ℕ → Type 0
 IsSilentStatus status = Contains (2 ∷ 3 ∷ 6 ∷ []) status

@@ -5,3 +5,4 @@ pub mod Headline
 pub mod MemorySink
 pub mod MemorySources
 pub mod Outside
+pub mod Parts

@@ -1,4 +1,4 @@
-ghost use Rattle.std.specs.Prelude.{◌≡◌, ℕ, List, [], ◌∷◌, ◌++◌, Contains, IfOk, OnOk, Some};
+ghost use Rattle.std.specs.Prelude.{◌≡◌, ◌↔◌, ℕ, ◌-◌, ◌^◌, pos, neg_ℤ, ◌≤ℤ◌, List, [], ◌∷◌, ◌++◌, Contains, IsTrue, IfOk, OnOk, Some};
 ghost use Rattle.hy_core.specs.Built.{IsBuilt, IsBuiltModule};
 ghost use Rattle.hy_core.specs.BuiltIn.{answer};
 ghost use Rattle.hy_core.specs.Evaluation.{answer_end};
@@ -24,6 +24,13 @@ pub struct Binding {
 const LEAST: i64 = -(1 << 59);
 
 const GREATEST: i64 = (1 << 59) - 1;
+
+/// Whether a number is in the range of the language.
+pub fn is_number(n: i64) -> bool
+    ensures { IsTrue result ↔ ((neg_ℤ (pos (2 ^ 59)) ≤ℤ n) × (n ≤ℤ pos (2 ^ 59 - 1))) }
+{
+    LEAST <= n && n <= GREATEST
+}
 
 /// What a module displays, in order, and how it ends.
 #[derive(Drop)]
@@ -139,7 +146,7 @@ fn sum(left: Value, right: Value) -> Ending
 {
     match (left, right) {
         (Value::Int(left), Value::Int(right)) => match left.checked_add(right) {
-            Some(n) if LEAST <= n && n <= GREATEST => Ending::Gives(Value::Int(n)),
+            Some(n) if is_number(n) => Ending::Gives(Value::Int(n)),
             _ => Ending::Raises(Reason::SystemLimit),
         },
         _ => Ending::Raises(Reason::Badarith),

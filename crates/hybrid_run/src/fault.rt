@@ -1,6 +1,8 @@
 ghost use Rattle.std.specs.Prelude.{◌≡◌, ◌++◌, length, IfOk, OnOk};
-ghost use Rattle.hybrid_run.specs.Faults.{text_of_fault, read_fault_text, status_of_fault, IsOfFiles};
+ghost use Rattle.hybrid_run.specs.Faults.{text_of_fault, read_fault_text, refusal_text, kind_name, status_of_fault, IsOfFiles};
 
+use core_reader::Refused;
+use hy_core::RefusalKind;
 use hy_terms::{Memory, Words};
 use std::alloc::Global;
 
@@ -11,7 +13,9 @@ pub enum TopFault {
     Usage,
     /// A file's text couldn't be read.
     Read { file: u32 },
-    /// A text is outside what the program runs so far.
+    /// A file's text is no module.
+    Refused { file: u32, refused: Refused },
+    /// A module is outside what the program runs so far.
     NotBuilt,
     /// Standard output failed.
     Write,
@@ -24,6 +28,10 @@ pub fn status_of(fault: &TopFault) -> u8
 {
     match fault {
         TopFault::Usage => 2,
+        TopFault::Refused {
+            file: _,
+            refused: _,
+        } => 3,
         TopFault::NotBuilt => 3,
         TopFault::Read { file: _ } => 6,
         TopFault::Write => 7,
@@ -51,6 +59,9 @@ pub fn fault_text(alloc: Global, fault: &TopFault, files: &Words) -> Result<Vec<
     match fault {
         TopFault::Usage => text.extend_from_slice(b"hyb: usage\n")?,
         TopFault::Read { file } => push_read_fault(&mut text, files.word(*file as u64))?,
+        TopFault::Refused { file, refused } => {
+            push_refusal(&mut text, files.word(*file as u64), *refused)?
+        }
         TopFault::NotBuilt => text.extend_from_slice(b"hyb: not built\n")?,
         TopFault::Write => text.extend_from_slice(b"hyb: write failed\n")?,
         TopFault::Memory => text.extend_from_slice(b"hyb: out of memory\n")?,
@@ -65,4 +76,30 @@ fn push_read_fault(text: &mut Vec<u8>, name: &str) -> Result<(), Memory>
     text.extend_from_slice(name.as_bytes())?;
     text.push(b'\n')?;
     Ok(())
+}
+
+fn push_refusal(text: &mut Vec<u8>, name: &str, refused: Refused) -> Result<(), Memory>
+    ensures { OnOk result (text.new.items ≡ text.old.items ++ refusal_text name.now refused.kind refused.place) }
+{
+    let line = format!(in *text.allocator();
+        "hyb: {}: {} at {}\n",
+        name,
+        name_of(refused.kind),
+        refused.place
+    )?;
+    text.extend_from_slice(line.as_bytes())?;
+    Ok(())
+}
+
+fn name_of(kind: RefusalKind) -> &'static str
+    ensures { result.now ≡ kind_name kind }
+{
+    match kind {
+        RefusalKind::BadToken => "BadToken",
+        RefusalKind::Unexpected => "Unexpected",
+        RefusalKind::Ended => "Ended",
+        RefusalKind::NumberRange => "NumberRange",
+        RefusalKind::TooDeep => "TooDeep",
+        RefusalKind::TooLong => "TooLong",
+    }
 }

@@ -1,6 +1,7 @@
 //! The top call, and what it meets outside.
 #![tactic(auto)]
 
+mod built;
 mod evaluate;
 mod fault;
 mod output;
@@ -12,6 +13,7 @@ mod top;
 mod value;
 mod words;
 
+pub use core_reader::Refused;
 pub use fault::{TopFault, fault_text};
 pub use top::{Finish, hybrid};
 pub use words::files;

@@ -3,7 +3,8 @@
 use crate::outside::gate::OpenGate;
 use crate::outside::memory_sink::MemorySink;
 use crate::outside::memory_sources::MemorySources;
-use crate::{Finish, TopFault, fault_text, files, hybrid};
+use crate::{Finish, Refused, TopFault, fault_text, files, hybrid};
+use hy_core::RefusalKind;
 use hy_terms::Words;
 use std::alloc::AllocGlobal;
 use std::test::Fail;
@@ -51,9 +52,21 @@ fn refused(status: u8, fault: TopFault) -> Finish {
     }
 }
 
+/// The refusal of the one file's text.
+fn refused_at(kind: RefusalKind, place: u64) -> Finish {
+    let refused_text = Refused { kind, place };
+    refused(
+        3,
+        TopFault::Refused {
+            file: 0,
+            refused: refused_text,
+        },
+    )
+}
+
 #[test]
 fn runs_modules(rt: HostRuntime) -> Result<(), Fail> {
-    let rows: [(&[u8], &[u8], u8); 5] = [
+    let rows: [(&[u8], &[u8], u8); 6] = [
         (
             b"call 'erlang':'display'(call 'erlang':'+'(2,3))",
             b"5\n0 ended 'true'\n",
@@ -75,6 +88,11 @@ fn runs_modules(rt: HostRuntime) -> Result<(), Fail> {
             b"-1\n-2\n0 ended -576460752303423488\n",
             0,
         ),
+        (
+            b"% a comment, and an annotation\n( 7 -| ['compiler_generated'] )",
+            b"0 ended 7\n",
+            0,
+        ),
     ];
     for row in rows.as_slice() {
         let text = module_of(&rt, row.0)?;
@@ -86,10 +104,54 @@ fn runs_modules(rt: HostRuntime) -> Result<(), Fail> {
 }
 
 #[test]
+fn runs_beside_module_info(rt: HostRuntime) -> Result<(), Fail> {
+    let texts: [&[u8]; 2] = [
+        b"module 'm' ['main'/0,'module_info'/0] attributes [] 'main'/0 = fun () -> 7 'module_info'/0 = fun () -> call 'erlang':'get_module_info'('m') end",
+        b"module 'm' ['main'/0,'main'/0] attributes ['file' = [{\"m\",1}]] 'main'/0 = fun () -> 7 end",
+    ];
+    for text in texts.as_slice() {
+        let told = run_file(&rt, text, ROOM, Vec::new(rt.alloc()))?;
+        assert_eq!(rt; told.1.bytes(), b"0 ended 7\n".as_slice());
+        assert_eq!(rt; told.0, ended(0));
+    }
+    Ok(())
+}
+
+#[test]
 fn refuses_what_is_no_module(rt: HostRuntime) -> Result<(), Fail> {
-    let unbound = module_of(&rt, b"X")?;
     let number = module_of(&rt, b"576460752303423488")?;
-    let texts: [&[u8]; 3] = [b"", unbound.as_slice(), number.as_slice()];
+    let rows: [(&[u8], RefusalKind, u64); 5] = [
+        (b"", RefusalKind::Ended, 0),
+        (b"module 'm", RefusalKind::Ended, 9),
+        (b"module 'm' [#", RefusalKind::BadToken, 12),
+        (b"module 'm' end", RefusalKind::Unexpected, 11),
+        (
+            number.as_slice(),
+            RefusalKind::NumberRange,
+            HEAD.len() as u64,
+        ),
+    ];
+    for row in rows.as_slice() {
+        let told = run_file(&rt, row.0, ROOM, Vec::new(rt.alloc()))?;
+        assert_eq!(rt; told.0, refused_at(row.1, row.2));
+        assert_eq!(rt; told.1.bytes(), b"".as_slice());
+    }
+    Ok(())
+}
+
+#[test]
+fn builds_the_arithmetic_part_alone(rt: HostRuntime) -> Result<(), Fail> {
+    let unbound = module_of(&rt, b"X")?;
+    let pair = module_of(&rt, b"{1,2}")?;
+    let product = module_of(&rt, b"call 'erlang':'*'(2,3)")?;
+    let texts: [&[u8]; 6] = [
+        unbound.as_slice(),
+        pair.as_slice(),
+        product.as_slice(),
+        b"module 'm' ['main'/0] attributes [] 'main'/0 = fun () -> 7 'f'/0 = fun () -> 7 end",
+        b"module 'm' ['main'/0,'f'/0] attributes [] 'main'/0 = fun () -> 7 end",
+        b"module 'm' [] attributes [] 'main'/0 = fun () -> 7 end",
+    ];
     for text in texts.as_slice() {
         let told = run_file(&rt, text, ROOM, Vec::new(rt.alloc()))?;
         assert_eq!(rt; told.0, refused(3, TopFault::NotBuilt));
@@ -168,11 +230,14 @@ fn keeps_what_was_written(rt: HostRuntime) -> Result<(), Fail> {
     Ok(())
 }
 
+/// What an addition of 1 begins with.
+const ADDS: &[u8] = b"call 'erlang':'+'(1,";
+
 /// As many additions of 1, each within the one before.
 fn nested<R: AllocGlobal>(rt: &R, depth: usize) -> Result<Vec<u8>, Fail> {
     let mut body = Vec::new(rt.alloc());
     for _ in 0..depth {
-        body.extend_from_slice(b"call 'erlang':'+'(1,")?;
+        body.extend_from_slice(ADDS)?;
     }
     body.push(b'0')?;
     for _ in 0..depth {
@@ -188,7 +253,9 @@ fn nests_up_to_400_levels(rt: HostRuntime) -> Result<(), Fail> {
     assert_eq!(rt; told.1.bytes(), b"0 ended 399\n".as_slice());
     let deeper = nested(&rt, 400)?;
     let told = run_file(&rt, deeper.as_slice(), ROOM, Vec::new(rt.alloc()))?;
-    assert_eq!(rt; told.0, refused(3, TopFault::NotBuilt));
+    // The module of the innermost call has level 401.
+    let place = HEAD.len() + 399 * ADDS.len() + b"call ".len();
+    assert_eq!(rt; told.0, refused_at(RefusalKind::TooDeep, place as u64));
     Ok(())
 }
 
@@ -208,7 +275,7 @@ fn reads_a_text_of_the_most_bytes(rt: HostRuntime) -> Result<(), Fail> {
     assert_eq!(rt; told.0, ended(0));
     let longer = long_text(&rt, (1 << 20) + 1)?;
     let told = run_file(&rt, longer.as_slice(), ROOM, Vec::new(rt.alloc()))?;
-    assert_eq!(rt; told.0, refused(3, TopFault::NotBuilt));
+    assert_eq!(rt; told.0, refused_at(RefusalKind::TooLong, 1 << 20));
     Ok(())
 }
 
@@ -228,5 +295,40 @@ fn says_why(rt: HostRuntime) -> Result<(), Fail> {
     assert_eq!(rt; write.as_slice(), b"hyb: write failed\n".as_slice());
     let memory = fault_text(rt.alloc(), &TopFault::Memory, &files)?;
     assert_eq!(rt; memory.as_slice(), b"hyb: out of memory\n".as_slice());
+    Ok(())
+}
+
+#[test]
+fn says_what_is_wrong_and_where(rt: HostRuntime) -> Result<(), Fail> {
+    let mut files = Words::new(rt.alloc());
+    files.push("m.core")?;
+    let rows: [(RefusalKind, u64, &[u8]); 6] = [
+        (RefusalKind::BadToken, 12, b"hyb: m.core: BadToken at 12\n"),
+        (
+            RefusalKind::Unexpected,
+            11,
+            b"hyb: m.core: Unexpected at 11\n",
+        ),
+        (RefusalKind::Ended, 9, b"hyb: m.core: Ended at 9\n"),
+        (
+            RefusalKind::NumberRange,
+            57,
+            b"hyb: m.core: NumberRange at 57\n",
+        ),
+        (RefusalKind::TooDeep, 457, b"hyb: m.core: TooDeep at 457\n"),
+        (
+            RefusalKind::TooLong,
+            1048576,
+            b"hyb: m.core: TooLong at 1048576\n",
+        ),
+    ];
+    for row in rows.as_slice() {
+        let refused = Refused {
+            kind: row.0,
+            place: row.1,
+        };
+        let text = fault_text(rt.alloc(), &TopFault::Refused { file: 0, refused }, &files)?;
+        assert_eq!(rt; text.as_slice(), row.2);
+    }
     Ok(())
 }
