@@ -7,7 +7,7 @@ use Rattle.hy_core.specs.declared.tree.Module.{Module}
 use Rattle.hybrid_run.specs.Faults.{status_of_answer, HasWritten, IsOfFile}
 use Rattle.hybrid_run.specs.FileWords.{file_words}
 use Rattle.hybrid_run.specs.Headline.{HasNoModule, IsRunStatus, text_of_file, told_text}
-use Rattle.hybrid_run.specs.Outside.{first_bytes, read_limit}
+use Rattle.outside.specs.Outside.{first_bytes, read_limit}
 use Rattle.hybrid_run.specs.declared.fault.TopFault.{TopFault}
 use Rattle.hybrid_run.specs.declared.fault.TopFault.TheVariants as f
 

@@ -11,7 +11,7 @@ use Rattle.hy_core.specs.declared.step.Step.{Step}
 use Rattle.hy_core.specs.declared.tree.Module.{Module}
 use Rattle.hybrid_run.specs.Arithmetic.{end_of, output_of}
 use Rattle.hybrid_run.specs.FileWords.{file_words}
-use Rattle.hybrid_run.specs.Outside.{Appends, AppendsPrefix}
+use Rattle.outside.specs.Outside.{Appends, AppendsPrefix}
 use Rattle.hybrid_run.specs.declared.value.Value.{Value}
 use Rattle.hybrid_run.specs.declared.value.Ending.{Ending}
 

@@ -1,10 +1,9 @@
-//! The top call, and what it meets outside.
+//! The top call, over what the program meets outside.
 #![tactic(auto)]
 
 mod evaluate;
 mod fault;
 mod output;
-pub mod outside;
 mod run;
 #[cfg(test)]
 mod tests;

@@ -4,15 +4,14 @@ ghost use Rattle.hy_core.specs.Reading.{IsModuleText};
 ghost use Rattle.hy_core.specs.declared.tree.Module.{Module as Tree};
 ghost use Rattle.hybrid_run.specs.Faults.{HasWritten, IsOfOutput, IsOfText};
 ghost use Rattle.hybrid_run.specs.Headline.{Ran, Cut, HasNoModule, IsRunStatus};
-ghost use Rattle.hybrid_run.specs.Outside.{Rises};
+ghost use Rattle.outside.specs.Outside.{Rises};
 
 use crate::evaluate::evaluate_module;
 use crate::fault::TopFault;
 use crate::output::write_output;
-use crate::outside::gate::Gate;
-use crate::outside::sink::Sink;
 use core_reader::{ReadAnswer, read_module};
 use hy_core::Module;
+use outside::{Gate, Sink};
 use std::alloc::Global;
 
 /// Runs the module of a text, and writes its output. Answers the status.

@@ -5,7 +5,7 @@ use Rattle.hy_core.specs.declared.tree.Module.{Module}
 use Rattle.hybrid_run.specs.Faults.{status_of_answer}
 use Rattle.hybrid_run.specs.FileWords.{file_words}
 use Rattle.hybrid_run.specs.Headline.{HasNoModule, told_text}
-use Rattle.hybrid_run.specs.Outside.{Rises}
+use Rattle.outside.specs.Outside.{Rises}
 use Rattle.hybrid_run.proofs.Finishing.{of_file, refuses, completes, each_name, known_status}
 use Rattle.hybrid_run.proofs.top.hybrid.Goals as goal
 

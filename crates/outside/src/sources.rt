@@ -1,11 +1,11 @@
 ghost use Rattle.std.specs.Prelude.{◌≡◌, ◌≤◌, List, ℕ, Option, length, IfOk, IfSome, IsErrOf};
-ghost use Rattle.hybrid_run.specs.Outside.{first_bytes, Rises, read_limit};
+ghost use Rattle.outside.specs.Outside.{first_bytes, Rises, read_limit};
 
 use std::alloc::Global;
 use thiserror::Error;
 
 /// A source reads one byte more than a text may have, so that a text which is too long shows.
-pub const READ_LIMIT: usize = (1 << 20) + 1;
+pub(crate) const READ_LIMIT: usize = (1 << 20) + 1;
 
 /// Why a source gave no text.
 #[derive(Clone, Copy, Debug, PartialEq, Eq, Error)]

@@ -4,8 +4,8 @@ use Rattle.std.specs.String.{string_bytes}
 use Rattle.std.specs.Map.{update}
 use Rattle.std.specs.BTreeMap.{get_by_text}
 use Rattle.std.proofs.lemmas.Map.Text.{btree_map_updates_text}
-use Rattle.hybrid_run.proofs.Texts.{given_text}
-use Rattle.hybrid_run.proofs.outside.memory_sources.MemorySources.add.Goals as goal
+use Rattle.outside.proofs.Texts.{given_text}
+use Rattle.outside.proofs.memory_sources.MemorySources.add.Goals as goal
 
 pub returns-clause-ok : goal.returns-clause-ok
 returns-clause-ok c =

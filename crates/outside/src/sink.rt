@@ -1,5 +1,5 @@
 ghost use Rattle.std.specs.Prelude.{◌≡◌, ◌≤◌, List, ℕ, Option, OnOk, OnErr};
-ghost use Rattle.hybrid_run.specs.Outside.{Appends, AppendsPrefix, Rises};
+ghost use Rattle.outside.specs.Outside.{Appends, AppendsPrefix, Rises};
 
 /// A write that failed.
 #[derive(Clone, Copy, Debug, PartialEq, Eq)]

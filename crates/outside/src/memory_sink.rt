@@ -1,7 +1,7 @@
 ghost use Rattle.std.specs.Prelude.{◌≡◌, ◌≤◌, ◌+◌, [], ◌++◌, ◌↔◌, Some, IsTrue, IfOk, IsErr, OnOk, OnErr, vec_capacity, vec_len};
 
-use crate::outside::listed::is_listed;
-use crate::outside::sink::{Failed, Sink};
+use crate::listed::is_listed;
+use crate::sink::{Failed, Sink};
 use hy_terms::Memory;
 use std::alloc::Global;
 
@@ -19,7 +19,7 @@ pub struct MemorySink {
 }
 
 impl MemorySink {
-    ghost use Rattle.hybrid_run.specs.MemorySink.{bytes_of, count_of, room_of, fails_of, calls_of, FailsAt};
+    ghost use Rattle.outside.specs.MemorySink.{bytes_of, count_of, room_of, fails_of, calls_of, FailsAt};
 
     /// Takes room for so many bytes. It fails at the listed calls and where a piece doesn't fit, and nowhere else.
     pub fn new(alloc: Global, room: u64, fails: Vec<u64>) -> Result<MemorySink, Memory>
@@ -55,8 +55,8 @@ impl MemorySink {
 }
 
 impl Sink for MemorySink {
-    ghost use Rattle.hybrid_run.specs.Outside.{Appends, AppendsPrefix, next_call, Rises};
-    ghost use Rattle.hybrid_run.specs.MemorySink.{bytes_of, count_of, room_of, fails_of, calls_of, FailsAt};
+    ghost use Rattle.outside.specs.Outside.{Appends, AppendsPrefix, next_call, Rises};
+    ghost use Rattle.outside.specs.MemorySink.{bytes_of, count_of, room_of, fails_of, calls_of, FailsAt};
 
     ghost written = { λ s. Some (bytes_of s) };
 

@@ -1,8 +1,8 @@
 ghost use Rattle.std.specs.Prelude.{◌≡◌, ◌≤◌, ◌<◌, List, ℕ, [], length, ◌↔◌, Some, None, true, false, IsTrue, IfOk, IfSome, IsErr, IsErrOf, OnOk, OnErr};
-ghost use Rattle.hybrid_run.specs.Outside.{first_bytes, next_call, Rises, times, read_limit};
+ghost use Rattle.outside.specs.Outside.{first_bytes, next_call, Rises, times, read_limit};
 
-use crate::outside::listed::is_listed;
-use crate::outside::sources::{READ_LIMIT, SourceFault, Sources};
+use crate::listed::is_listed;
+use crate::sources::{READ_LIMIT, SourceFault, Sources};
 use hy_terms::Memory;
 use std::alloc::Global;
 use std::collections::BTreeMap;
@@ -21,7 +21,7 @@ pub struct MemorySources {
 }
 
 impl MemorySources {
-    ghost use Rattle.hybrid_run.specs.MemorySources.{text_of, count_of, is_sure, fails_of, calls_of, SameTexts, SameCalls, Gives};
+    ghost use Rattle.outside.specs.MemorySources.{text_of, count_of, is_sure, fails_of, calls_of, SameTexts, SameCalls, Gives};
 
     /// It has no name yet. It fails at the listed calls and for a name that it doesn't have, and nowhere else.
     pub fn new(alloc: Global, fails: Vec<u64>) -> MemorySources
@@ -72,7 +72,7 @@ impl MemorySources {
 }
 
 impl MemorySources {
-    ghost use Rattle.hybrid_run.specs.MemorySources.{FailsAt};
+    ghost use Rattle.outside.specs.MemorySources.{FailsAt};
 
     fn fails_at(&self, name: &str) -> bool
         ensures { IsTrue result ↔ FailsAt self.now name.now }
@@ -84,7 +84,7 @@ impl MemorySources {
 }
 
 impl Sources for MemorySources {
-    ghost use Rattle.hybrid_run.specs.MemorySources.{text_of, count_of, is_sure, fails_of, calls_of, FailsAt};
+    ghost use Rattle.outside.specs.MemorySources.{text_of, count_of, is_sure, fails_of, calls_of, FailsAt};
 
     ghost told = { text_of };
 

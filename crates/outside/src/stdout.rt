@@ -1,6 +1,6 @@
 ghost use Rattle.std.specs.Prelude.{◌≡◌, None};
 
-use crate::outside::sink::{Failed, Sink};
+use crate::sink::{Failed, Sink};
 use std::io::ErrorKind;
 
 /// Standard output. It tells nothing of what was written.

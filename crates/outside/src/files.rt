@@ -1,7 +1,7 @@
 ghost use Rattle.std.specs.Prelude.{◌≡◌, ◌≤◌, None, IfOk, length};
-ghost use Rattle.hybrid_run.specs.Outside.{read_limit};
+ghost use Rattle.outside.specs.Outside.{read_limit};
 
-use crate::outside::sources::{READ_LIMIT, SourceFault, Sources};
+use crate::sources::{READ_LIMIT, SourceFault, Sources};
 use std::alloc::Global;
 use std::fs;
 use std::io::{Error, ErrorKind, Read};

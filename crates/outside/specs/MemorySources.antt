@@ -1,9 +1,9 @@
 -- What sources in memory tell, and when they fail. This project's own.
-use Rattle.std.specs.Prelude.{◌≡◌, ◌⊎◌, ◌≢◌, ℕ, ◌+◌, ◌-◌, ◌^◌, ◌<◌, Bool, true, false, List, [], length, min, Option, None, Some, Contains, if◌then◌else◌}
+use Rattle.std.specs.Prelude.{◌≡◌, ◌⊎◌, ◌≢◌, ℕ, Bool, true, false, List, [], Option, None, Some, Contains}
 use Rattle.std.specs.Option.{option_map}
 use Rattle.std.specs.BTreeMap.{get_by_text}
-use Rattle.hybrid_run.specs.Outside.{next_call, times}
-use Rattle.hybrid_run.specs.declared.outside.memory_sources.MemorySources.{MemorySources}
+use Rattle.outside.specs.Outside.{next_call, times}
+use Rattle.outside.specs.declared.memory_sources.MemorySources.{MemorySources}
 
 -- sources that never fail
 abbrev pub is_sure : MemorySources → Bool

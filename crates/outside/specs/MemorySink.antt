@@ -1,7 +1,7 @@
 -- What a sink in memory holds, and when it fails. This project's own.
-use Rattle.std.specs.Prelude.{◌⊎◌, ℕ, ◌+◌, ◌-◌, ◌^◌, ◌<◌, List, length, min, Contains}
-use Rattle.hybrid_run.specs.Outside.{next_call}
-use Rattle.hybrid_run.specs.declared.outside.memory_sink.MemorySink.{MemorySink}
+use Rattle.std.specs.Prelude.{◌⊎◌, ℕ, ◌+◌, ◌<◌, List, length, Contains}
+use Rattle.outside.specs.Outside.{next_call}
+use Rattle.outside.specs.declared.memory_sink.MemorySink.{MemorySink}
 
 abbrev pub bytes_of : MemorySink → List ℕ
 bytes_of s = s.bytes.items

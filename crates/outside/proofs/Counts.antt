@@ -1,12 +1,12 @@
 -- How often a name has failed, with one name more.
-use Rattle.std.proofs.Common.{◌≡◌, ℕ, ◌+◌, ◌≤◌, ◌<◌, List, [], ◌∷◌, ◌++◌, true, cond, refl, sym, ap, ◌∙◌, arith}
+use Rattle.std.proofs.Common.{◌≡◌, ℕ, ◌+◌, List, [], ◌∷◌, ◌++◌, true, cond, refl, ◌∙◌, arith}
 use Rattle.std.specs.Prelude.{String}
 use Rattle.std.specs.Str.{bytes_eq}
 use Rattle.std.specs.String.{string_bytes}
 use Rattle.std.specs.Global.{Global}
 use Rattle.std.proofs.lemmas.List.Sums.{sum_by-append}
 use Rattle.std.proofs.lemmas.Slice.Eq.{bytes_eq-Decides}
-use Rattle.hybrid_run.specs.Outside.{times}
+use Rattle.outside.specs.Outside.{times}
 
 -- one name more counts once where it is that name
 pub times_push : (name : List ℕ) (names : List (String Global)) (one : String Global) → times name (names ++ one ∷ []) ≡ times name names + cond (bytes_eq (string_bytes one) name) 1 0

@@ -1,6 +1,6 @@
 use Rattle.std.proofs.Common.{◌≡◌, ◌≤◌, vec_len}
-use Rattle.hybrid_run.specs.Outside.{read_limit}
-use Rattle.hybrid_run.proofs.outside.files.read_bytes.Given as goal
+use Rattle.outside.specs.Outside.{read_limit}
+use Rattle.outside.proofs.files.read_bytes.Given as goal
 
 -- the text so far is within the limit, and the piece keeps its length
 abbrev pub invariant-loop : goal.invariant-loop

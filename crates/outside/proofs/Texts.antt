@@ -1,5 +1,5 @@
 -- What sources in memory tell after a name was given a text.
-use Rattle.std.proofs.Common.{◌≡◌, ◌≢◌, ℕ, List, Bool, true, false, Option, Some, None, refl, sym, ap, ◌∙◌}
+use Rattle.std.proofs.Common.{◌≡◌, ◌≢◌, ℕ, List, Bool, true, false, Some, refl, sym, ◌∙◌}
 use Rattle.std.specs.Prelude.{String}
 use Rattle.std.specs.Option.{option_map}
 use Rattle.std.specs.Str.{bytes_eq}
@@ -8,8 +8,8 @@ use Rattle.std.specs.BTreeMap.{BTreeMap, get_by_text}
 use Rattle.std.specs.Global.{Global}
 use Rattle.std.proofs.lemmas.Bool.{false_from_ne_true}
 use Rattle.std.proofs.lemmas.Slice.Eq.{bytes_eq-Decides}
-use Rattle.hybrid_run.specs.MemorySources.{told_of}
-use Rattle.hybrid_run.proofs.Counts.{same_bytes}
+use Rattle.outside.specs.MemorySources.{told_of}
+use Rattle.outside.proofs.Counts.{same_bytes}
 
 told_some : (sure : Bool) (text : List ℕ) → told_of sure (Some text) ≡ Some text
 told_some true text = refl

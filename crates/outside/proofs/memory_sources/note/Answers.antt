@@ -1,9 +1,8 @@
-use Rattle.std.proofs.Common.{◌≡◌, List, ℕ, ◌+◌, ap, ◌∙◌, arith, cond}
+use Rattle.std.proofs.Common.{◌≡◌, ℕ, arith, cond}
 use Rattle.std.specs.Str.{bytes_eq}
 use Rattle.std.specs.String.{string_bytes}
-use Rattle.hybrid_run.specs.Outside.{times}
-use Rattle.hybrid_run.proofs.Counts.{times_push, same_bytes}
-use Rattle.hybrid_run.proofs.outside.memory_sources.note.Goals as goal
+use Rattle.outside.proofs.Counts.{times_push, same_bytes}
+use Rattle.outside.proofs.memory_sources.note.Goals as goal
 
 pub returns-clause-rises : goal.returns-clause-rises
 returns-clause-rises c =
