@@ -17,3 +17,5 @@ pub mod PlainCloses
 pub mod Later
 pub mod Rowed
 pub mod Families
+mod Readings
+mod Forks

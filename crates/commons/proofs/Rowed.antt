@@ -23,7 +23,7 @@ below_three P a b c (suc (suc zero)) h = c
 below_three P a b c (suc (suc (suc k))) h = absurd (omega arith)
 
 -- a word that was put stays
-stayed : (a b : View) (place word x : ℕ) → Puts a x b → word ≢ 0 → slice_index a.seen place ≡ word → slice_index b.seen place ≡ word
+pub stayed : (a b : View) (place word x : ℕ) → Puts a x b → word ≢ 0 → slice_index a.seen place ≡ word → slice_index b.seen place ≡ word
 stayed a b place word x p n e = p.1 place (λ z. n (sym e ∙ z)) ∙ e
 
 -- words that were put in a row stand in a row

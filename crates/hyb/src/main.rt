@@ -6,10 +6,8 @@ ghost use Rattle.hybrid_run.specs.Faults.{IsOfFiles};
 ghost use Rattle.hybrid_run.specs.FileWords.{file_words};
 
 use hy_terms::{Memory, Words};
-use hybrid_run::outside::files::FileSources;
-use hybrid_run::outside::gate::OpenGate;
-use hybrid_run::outside::stdout::StdoutSink;
 use hybrid_run::{TopFault, fault_text, files, hybrid};
+use outside::{FileSources, OpenGate, StdoutSink};
 use std::alloc::Global;
 use std::env;
 use std::io::ErrorKind;

@@ -10,7 +10,7 @@ use Rattle.hy_core.specs.declared.tree.Module.{Module}
 use Rattle.hybrid_run.specs.Faults.{FailsWith, status_of_answer, fault_of_answer, refused_at, IsOfFile, IsRefusal}
 use Rattle.hybrid_run.specs.FileWords.{file_words}
 use Rattle.hybrid_run.specs.Headline.{HasNoBuiltModule, IsBuiltText, IsOtherText, IsAnswered, IsRunStatus, text_of_file, told_text}
-use Rattle.hybrid_run.specs.Outside.{first_bytes, read_limit}
+use Rattle.outside.specs.Outside.{first_bytes, read_limit}
 use Rattle.hybrid_run.specs.declared.fault.TopFault.{TopFault}
 use Rattle.hybrid_run.specs.declared.fault.TopFault.TheVariants as f
 

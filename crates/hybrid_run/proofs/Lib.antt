@@ -1,5 +1,4 @@
 pub mod Bindings
-pub mod Counts
 pub mod Evaluating
 pub mod Finishing
 pub mod Lists
@@ -7,5 +6,4 @@ pub mod Modules
 pub mod Parts
 pub mod Reading
 pub mod Running
-pub mod Texts
 pub mod Written

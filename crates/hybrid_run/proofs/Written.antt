@@ -4,7 +4,7 @@ use Rattle.std.proofs.lemmas.List.{append-nil, take_more, map-append, take-appen
 use Rattle.std.specs.Prelude.{IfSome, drop}
 use Rattle.hy_core.specs.Alone.{lines_of}
 use Rattle.hybrid_run.specs.Arithmetic.{value_text, printed_lines}
-use Rattle.hybrid_run.specs.Outside.{Appends, AppendsPrefix, Rises}
+use Rattle.outside.specs.Outside.{Appends, AppendsPrefix, Rises}
 use Rattle.hybrid_run.specs.declared.value.Value.{Value}
 
 pub appends_both : (a b c : Option (List ℕ)) (xs ys : List ℕ) → Appends a b xs → Appends b c ys → Appends a c (xs ++ ys)

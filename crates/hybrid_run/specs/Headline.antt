@@ -15,7 +15,7 @@ use Rattle.hy_core.specs.declared.tree.Module.{Module}
 use Rattle.hybrid_run.specs.Arithmetic.{end_of, output_of}
 use Rattle.hybrid_run.specs.Faults.{refused_at}
 use Rattle.hybrid_run.specs.FileWords.{file_words}
-use Rattle.hybrid_run.specs.Outside.{Appends, AppendsPrefix}
+use Rattle.outside.specs.Outside.{Appends, AppendsPrefix}
 use Rattle.hybrid_run.specs.declared.fault.TopFault.{TopFault}
 use Rattle.hybrid_run.specs.declared.fault.TopFault.TheVariants as f
 use Rattle.hybrid_run.specs.declared.value.Value.{Value}

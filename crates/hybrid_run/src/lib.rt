@@ -1,11 +1,10 @@
-//! The top call, and what it meets outside.
+//! The top call, over what the program meets outside.
 #![tactic(auto)]
 
 mod built;
 mod evaluate;
 mod fault;
 mod output;
-pub mod outside;
 mod run;
 #[cfg(test)]
 mod tests;

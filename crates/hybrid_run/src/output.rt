@@ -1,11 +1,11 @@
 ghost use Rattle.std.specs.Prelude.{◌≡◌, ◌<◌, ◌≤◌, IfOk, IfErr, OnOk, IsErrOf};
 ghost use Rattle.hybrid_run.specs.Arithmetic.{printed_lines, output_of, status_of};
-ghost use Rattle.hybrid_run.specs.Outside.{Appends, AppendsPrefix, Rises};
+ghost use Rattle.outside.specs.Outside.{Appends, AppendsPrefix, Rises};
 ghost use Rattle.hybrid_run.specs.Faults.{IsOfOutput};
 
 use crate::fault::TopFault;
-use crate::outside::sink::{Failed, Sink};
 use crate::value::{Ending, Value, outcome_line, printed_text};
+use outside::{Failed, Sink};
 use std::alloc::Global;
 
 /// Writes what was displayed, and then the outcome line, each text by one write. Answers the status.

@@ -6,16 +6,15 @@ ghost use Rattle.hy_core.specs.declared.refusal.RefusalKind.{RefusalKind};
 ghost use Rattle.hy_core.specs.declared.tree.Module.{Module as Tree};
 ghost use Rattle.hybrid_run.specs.Faults.{FailsWith, HasWritten, IsOfModule, IsOfOutput, IsOfText, IsRefusal, IsSilent, refused_at};
 ghost use Rattle.hybrid_run.specs.Headline.{Ran, Cut, HasNoBuiltModule, IsBuiltText, IsOtherText, IsRunStatus};
-ghost use Rattle.hybrid_run.specs.Outside.{Rises};
+ghost use Rattle.outside.specs.Outside.{Rises};
 
 use crate::built::is_built_module;
 use crate::evaluate::evaluate_module;
 use crate::fault::TopFault;
 use crate::output::write_output;
-use crate::outside::gate::Gate;
-use crate::outside::sink::Sink;
 use core_reader::{ReadAnswer, read_module};
 use hy_core::Module;
+use outside::{Gate, Sink};
 use std::alloc::Global;
 
 /// Runs the module of a text, and writes its output. Answers the status.

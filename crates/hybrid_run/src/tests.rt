@@ -1,11 +1,9 @@
 //! The rows of the program over sources and a sink in memory.
 
-use crate::outside::gate::OpenGate;
-use crate::outside::memory_sink::MemorySink;
-use crate::outside::memory_sources::MemorySources;
 use crate::{Finish, Refused, TopFault, fault_text, files, hybrid};
 use hy_core::RefusalKind;
 use hy_terms::Words;
+use outside::{MemorySink, MemorySources, OpenGate};
 use std::alloc::AllocGlobal;
 use std::test::Fail;
 use std::thread::Threads;

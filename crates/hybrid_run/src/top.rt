@@ -6,15 +6,13 @@ ghost use Rattle.hy_core.specs.declared.tree.Module.{Module};
 ghost use Rattle.hybrid_run.specs.Faults.{FailsWith, status_of_fault, status_of_answer, fault_of_answer, refused_at, HasWritten, IsOfFile, IsOfFiles, IsRefusal, IsSilent};
 ghost use Rattle.hybrid_run.specs.FileWords.{file_words};
 ghost use Rattle.hybrid_run.specs.Headline.{told_text, Ran, Cut, HasNoBuiltModule, IsBuiltText, IsOtherText, IsAnswered, IsRunStatus, IsSilentStatus};
-ghost use Rattle.hybrid_run.specs.Outside.{Rises};
+ghost use Rattle.outside.specs.Outside.{Rises};
 
 use crate::fault::{TopFault, status_of};
-use crate::outside::gate::Gate;
-use crate::outside::sink::Sink;
-use crate::outside::sources::{SourceFault, Sources};
 use crate::run::run_text;
 use crate::words::file_word;
 use hy_terms::Words;
+use outside::{Gate, Sink, SourceFault, Sources};
 use std::alloc::Global;
 use std::thread::Threads;
 

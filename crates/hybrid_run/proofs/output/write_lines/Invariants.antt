@@ -1,6 +1,6 @@
 use Rattle.std.proofs.Common.{◌≤◌, take}
 use Rattle.hybrid_run.specs.Arithmetic.{printed_lines}
-use Rattle.hybrid_run.specs.Outside.{Appends}
+use Rattle.outside.specs.Outside.{Appends}
 use Rattle.hybrid_run.proofs.output.write_lines.Given as goal
 
 -- the texts so far stand in the sink, which has not failed less often

@@ -1,7 +1,7 @@
 use Rattle.std.proofs.Common.{ℕ, List, subst, ◌∙◌}
 use Rattle.hy_core.specs.Output.{outcome_line}
 use Rattle.hybrid_run.specs.Arithmetic.{printed_lines, end_of}
-use Rattle.hybrid_run.specs.Outside.{AppendsPrefix}
+use Rattle.outside.specs.Outside.{AppendsPrefix}
 use Rattle.hybrid_run.proofs.Written.{prefix_behind}
 use Rattle.hybrid_run.proofs.output.write_output.Goals as goal
 

@@ -5,7 +5,7 @@ use Rattle.hy_core.specs.declared.refusal.RefusalKind.{RefusalKind}
 use Rattle.hybrid_run.specs.Faults.{status_of_answer, fault_of_answer, refused_at}
 use Rattle.hybrid_run.specs.FileWords.{file_words}
 use Rattle.hybrid_run.specs.Headline.{IsAnswered, told_text}
-use Rattle.hybrid_run.specs.Outside.{Rises}
+use Rattle.outside.specs.Outside.{Rises}
 use Rattle.hybrid_run.specs.declared.fault.TopFault.{TopFault}
 use Rattle.hybrid_run.proofs.Finishing.{of_file, where_refused, answered_by, completes, each_name, known_status}
 use Rattle.hybrid_run.proofs.top.hybrid.Goals as goal
