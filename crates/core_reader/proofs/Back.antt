@@ -1,35 +1,25 @@
 -- From what is to be read behind a token to what is to be read before it.
-use Rattle.std.proofs.Common.{◌≡◌, ℕ, ◌+◌, ◌≤◌, ◌<◌, leb, Bool, true, false, cond, List, [], ◌∷◌, ◌++◌, Option, Some, None, ◌⊎◌, inl, inr, refl, sym, ap, subst, ◌∙◌}
-use Rattle.std.proofs.lemmas.List.{append_assoc, append-nil}
-use Rattle.hy_core.specs.Marks.{Marked, at, constant, plain, word, arity, value, number}
-use Rattle.hy_core.specs.Numbering.{atom_number, with_atom, variable_number, with_variable, no_tables}
+use Rattle.std.proofs.Common.{◌≡◌, ℕ, ◌+◌, Bool, true, false, cond, List, [], ◌∷◌, Option, ◌⊎◌, inl, inr, refl, sym, subst}
+use Rattle.hy_core.specs.Marks.{Marked, at, constant, plain, word, value}
+use Rattle.hy_core.specs.Numbering.{variable_number, with_variable}
 use Rattle.hy_core.specs.Annotations as notes
 use Rattle.hy_core.specs.Annotations.{IsConstant, AreConstants, AreMoreConstants, IsConstantList, IsConstantEnd, IsConstantTail, IsNote, IsAtom, IsName, IsAttributeValue, AreAttributes, AreMoreAttributes}
 use Rattle.hy_core.specs.declared.token.Word.{Word}
 use Rattle.hy_core.specs.declared.token.Word.TheVariants as w
-use Rattle.hy_core.specs.declared.token.Sign.{Sign}
-use Rattle.hy_core.specs.declared.token.Sign.TheVariants as sign
 use Rattle.hy_core.specs.declared.token.Token.{Token}
 use Rattle.hy_core.specs.declared.token.Token.TheVariants as t
 use Rattle.hy_core.specs.declared.tables.Tables.{Tables}
 use Rattle.hy_core.specs.declared.tree.Module.{Module}
-use Rattle.core_reader.specs.declared.state.Part.{Part}
 use Rattle.core_reader.specs.declared.state.Part.TheVariants as part
-use Rattle.core_reader.specs.declared.state.Closer.{Closer}
-use Rattle.core_reader.specs.declared.state.Closer.TheVariants as closer
-use Rattle.core_reader.specs.declared.state.Form.TheVariants as f
 use Rattle.core_reader.specs.declared.state.Goal.{Goal}
 use Rattle.core_reader.specs.declared.state.Goal.TheVariants as g
 use Rattle.core_reader.specs.declared.state.Value.{Value}
-use Rattle.core_reader.specs.declared.state.Value.TheVariants as v
 use Rattle.core_reader.specs.declared.state.State.{State}
 use Rattle.hy_core.specs.Patterns as pats
 use Rattle.hy_core.specs.Patterns.{IsVariable, AreVariables, AreMoreVariables, BindsValues, IsNotBefore, IsAliased, IsPattern, ArePatterns, AreMorePatterns, IsPatternList, IsPatternEnd, IsPatternTail, string_pattern, joined_pattern}
-use Rattle.core_reader.specs.Machine.{on, closing, is_word, with_values, part_begun, constant_begun, variable_begun, pattern_begun, key_begun, value_begun, primop_begun, note_rest, goal_moved, parts_moved, tail_moved, part_mark, annotation_mark, value_mark, mark}
-use Rattle.core_reader.specs.Trees.{opened, added, closed, behind_head_patterns}
-use Rattle.core_reader.proofs.Tests.{word_at, not_word}
+use Rattle.core_reader.specs.Machine.{on, is_word, part_begun, constant_begun, variable_begun, pattern_begun, key_begun, value_begun, primop_begun, note_rest, goal_moved, annotation_mark, value_mark}
+use Rattle.core_reader.proofs.Tests.{word_at}
 use Rattle.core_reader.proofs.Meaning.{Completes}
-use Rattle.core_reader.proofs.Joins.{join_front_patterns}
 use Rattle.core_reader.proofs.Forth.{Moves}
 use Rattle.hy_core.specs.declared.tree.Pattern.{Pattern}
 use Rattle.hy_core.specs.declared.tree.Pattern.TheVariants as p

@@ -1,42 +1,34 @@
 -- From what is to be read behind a token to what is to be read before it: expressions, clauses, definitions and the module.
-use Rattle.std.proofs.Common.{◌≡◌, ℕ, ◌+◌, ◌≤◌, ◌<◌, Bool, true, false, cond, List, [], ◌∷◌, ◌++◌, Option, Some, None, ◌⊎◌, inl, inr, refl, sym, ap, subst, ◌∙◌}
+use Rattle.std.proofs.Common.{◌≡◌, ℕ, ◌+◌, Bool, true, false, List, [], ◌∷◌, ◌⊎◌, inl, inr, sym, ap, subst, ◌∙◌}
 use Rattle.std.proofs.lemmas.List.{append-nil}
-use Rattle.hy_core.specs.Marks.{Marked, at, constant, plain, word, arity, value, number}
-use Rattle.hy_core.specs.Numbering.{atom_number, with_atom, variable_number, with_variable, no_tables}
+use Rattle.hy_core.specs.Marks.{Marked, at, plain, word, arity, value}
+use Rattle.hy_core.specs.Numbering.{atom_number, with_atom}
 use Rattle.hy_core.specs.Annotations as notes
 use Rattle.hy_core.specs.Annotations.{IsConstant, AreConstants, AreMoreConstants, IsConstantList, IsConstantEnd, IsConstantTail, IsNote, IsAtom, IsName, IsAttributeValue, AreAttributes, AreMoreAttributes}
 use Rattle.hy_core.specs.declared.token.Word.{Word}
 use Rattle.hy_core.specs.declared.token.Word.TheVariants as w
-use Rattle.hy_core.specs.declared.token.Sign.{Sign}
-use Rattle.hy_core.specs.declared.token.Sign.TheVariants as sign
 use Rattle.hy_core.specs.declared.token.Token.{Token}
 use Rattle.hy_core.specs.declared.token.Token.TheVariants as t
 use Rattle.hy_core.specs.declared.tables.Tables.{Tables}
 use Rattle.hy_core.specs.declared.tree.Module.{Module}
-use Rattle.core_reader.specs.declared.state.Part.{Part}
 use Rattle.core_reader.specs.declared.state.Part.TheVariants as part
-use Rattle.core_reader.specs.declared.state.Closer.{Closer}
 use Rattle.core_reader.specs.declared.state.Closer.TheVariants as closer
-use Rattle.core_reader.specs.declared.state.Form.TheVariants as f
 use Rattle.core_reader.specs.declared.state.Goal.{Goal}
 use Rattle.core_reader.specs.declared.state.Goal.TheVariants as g
 use Rattle.core_reader.specs.declared.state.Value.{Value}
 use Rattle.core_reader.specs.declared.state.Value.TheVariants as v
-use Rattle.core_reader.specs.declared.state.State.{State}
 use Rattle.hy_core.specs.Patterns as pats
 use Rattle.hy_core.specs.Patterns.{AreVariables, BindsValues, IsNotBefore, IsPattern, ArePatterns}
 use Rattle.hy_core.specs.Expressions as exprs
 use Rattle.hy_core.specs.Expressions.{named_by, IsExpr, AreExprs, AreMoreExprs, IsList, IsListEnd, IsTail, IsClause, AreClauses, IsFunction, AreFunctions}
 use Rattle.hy_core.specs.Grammar as mods
 use Rattle.hy_core.specs.Grammar.{the_module_info, IsDropped, IsExport, AreExports, AreMoreExports, AreDefinitions, IsModuleAt}
-use Rattle.core_reader.specs.Machine.{is_info, expr_begun, function_begun, definition_begun, export_begun, clause_begun, body_begun, module_begun, clause_rest, annotation_mark, clause_mark, mark}
+use Rattle.core_reader.specs.Machine.{is_info, expr_begun, function_begun, definition_begun, export_begun, clause_begun, body_begun, module_begun, clause_rest, annotation_mark, clause_mark}
 use Rattle.core_reader.proofs.Meaning.{Completes, DefinedThen, ExportedThen}
 use Rattle.core_reader.proofs.Forth.{Moves}
 use Rattle.core_reader.proofs.ForthExprs.{info_is, not_info}
-use Rattle.core_reader.proofs.Back.{if_back, note_to, atom_to, pattern_to, aliased_to, pattern_aliased, pattern_back}
+use Rattle.core_reader.proofs.Back.{if_back, note_to, atom_to, pattern_to, pattern_aliased, pattern_back}
 use Rattle.hy_core.specs.declared.tree.FunName.{FunName}
-use Rattle.hy_core.specs.declared.tree.Function.{Function}
-use Rattle.hy_core.specs.declared.tree.Clause.{Clause}
 use Rattle.hy_core.specs.declared.tree.Pattern.{Pattern}
 use Rattle.hy_core.specs.declared.tree.Expr.{Expr}
 use Rattle.hy_core.specs.declared.tree.Expr.TheVariants as e
@@ -89,7 +81,7 @@ expr_back n gs vs s (t.Word w.Call) q z (x, u1, q1, d1, (q2, e1, (y, u2, q3, d2,
 expr_back n gs vs s (t.Word w.Primop) q z (text, q1, d1, (q2, e1, (xs, u2, q3, d2, h))) = (_, _, _, exprs.primop (atom_to d1 e1) d2, h)
 expr_back n gs vs s (t.Word w.Receive) q z (cs, u1, q1, d1, (x, u2, q2, d2, (q3, e1, (y, u3, q4, d3, h)))) = (_, _, _, exprs.receive_after d1 (expr_to d2 e1) d3, h)
 expr_back n gs vs s (t.Word w.Try) q z
-    (x, u1, q1, d1, (q2, e1, (xs, u2, q3, d2, (q4, e2, (y, u3, q5, d3, (q6, e3, (ys, u4, q7, d4, (q8, e4, (o, u5, q9, d5, h)))))))))  =
+    (x, u1, q1, d1, (q2, e1, (xs, u2, q3, d2, (q4, e2, (y, u3, q5, d3, (q6, e3, (ys, u4, q7, d4, (q8, e4, (o, u5, q9, d5, h))))))))) =
     (_, _, _, exprs.try_of (expr_to d1 e1) (binds_to d2 e2) (expr_to d3 e3) (binds_to d4 e4) d5, h)
 expr_back n gs vs s (t.Word w.Catch) q z (x, u, r, d, h) = (_, _, _, exprs.catch_all d, h)
 expr_back n gs vs s (t.Word w.Fun) q z (q1, e0, (xs, u1, q2, d1, (q3, e1, (x, u2, q4, d2, h)))) =

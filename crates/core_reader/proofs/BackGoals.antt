@@ -1,23 +1,17 @@
 -- From what is to be read behind a token to what is to be read before it: every goal, and one step.
-use Rattle.std.proofs.Common.{◌≡◌, ℕ, ◌+◌, ◌≤◌, ◌<◌, leb, Bool, true, false, cond, List, [], ◌∷◌, ◌++◌, Option, Some, None, Result, Ok, Err, ◌⊎◌, inl, inr, refl, sym, ap, subst, ◌∙◌, arith}
+use Rattle.std.proofs.Common.{◌≡◌, ℕ, ◌≤◌, ◌<◌, leb, Bool, true, false, cond, List, [], ◌∷◌, ◌++◌, Option, Some, None, ◌⊎◌, inl, inr, refl, sym, ap, subst, ◌∙◌, arith}
 use Rattle.std.proofs.lemmas.List.{append_assoc, append-nil}
 use Rattle.std.proofs.lemmas.Bool.Decides.{leb_tells}
-use Rattle.hy_core.specs.Marks.{Marked, at, constant, plain, word, arity, value, number}
-use Rattle.hy_core.specs.Numbering.{atom_number, with_atom, variable_number, with_variable, no_tables}
-use Rattle.hy_core.specs.Annotations as notes
-use Rattle.hy_core.specs.Annotations.{IsConstant, AreConstants, AreMoreConstants, IsConstantList, IsConstantEnd, IsConstantTail, IsNote, IsAtom, IsName, IsAttributeValue, AreAttributes, AreMoreAttributes}
-use Rattle.hy_core.specs.declared.token.Word.{Word}
+use Rattle.hy_core.specs.Marks.{Marked, plain, word, value}
+use Rattle.hy_core.specs.Numbering.{atom_number, with_atom, no_tables}
+use Rattle.hy_core.specs.Annotations.{IsNote}
 use Rattle.hy_core.specs.declared.token.Word.TheVariants as w
-use Rattle.hy_core.specs.declared.token.Sign.{Sign}
 use Rattle.hy_core.specs.declared.token.Sign.TheVariants as sign
 use Rattle.hy_core.specs.declared.token.Token.{Token}
 use Rattle.hy_core.specs.declared.token.Token.TheVariants as t
 use Rattle.hy_core.specs.declared.tables.Tables.{Tables}
 use Rattle.hy_core.specs.declared.tree.Module.{Module}
-use Rattle.core_reader.specs.declared.state.Part.{Part}
-use Rattle.core_reader.specs.declared.state.Part.TheVariants as part
 use Rattle.core_reader.specs.declared.state.Closer.{Closer}
-use Rattle.core_reader.specs.declared.state.Closer.TheVariants as closer
 use Rattle.core_reader.specs.declared.state.Form.TheVariants as f
 use Rattle.core_reader.specs.declared.state.Goal.{Goal}
 use Rattle.core_reader.specs.declared.state.Goal.TheVariants as g
@@ -29,11 +23,11 @@ use Rattle.hy_core.specs.Expressions as exprs
 use Rattle.hy_core.specs.Expressions.{named_by}
 use Rattle.hy_core.specs.Grammar as mods
 use Rattle.hy_core.specs.Grammar.{the_module_info, IsDropped}
-use Rattle.core_reader.specs.Machine.{state, closing, on, is_word, is_next, with_values, with_built, clause_begun, function_begun, definition_begun, info_arity_moved, info_export_moved, aliased_by, behind_note, note_rest, clause_rest, goal_moved, annotation_mark, clause_mark, mark, settled}
+use Rattle.core_reader.specs.Machine.{state, closing, is_word, is_next, with_values, with_built, clause_begun, function_begun, definition_begun, info_arity_moved, info_export_moved, aliased_by, behind_note, clause_rest, goal_moved, annotation_mark, clause_mark, mark, settled}
 use Rattle.core_reader.specs.Trees.{built, atom_built}
 use Rattle.core_reader.specs.Tops.{with_top, top_pattern}
-use Rattle.core_reader.proofs.Tests.{first_of, word_at, not_next, next_not}
-use Rattle.core_reader.proofs.Meaning.{Completes, Then, OnBuilt, DefinedThen, ExportedThen, AliasRestThen}
+use Rattle.core_reader.proofs.Tests.{first_of, word_at, next_not}
+use Rattle.core_reader.proofs.Meaning.{Completes, OnBuilt, DefinedThen, ExportedThen}
 use Rattle.core_reader.proofs.Forth.{Moves}
 use Rattle.core_reader.proofs.Back.{if_back, on_back, at_word, note_back, key_back, primop_back, value_back, bindings_back}
 use Rattle.core_reader.proofs.BackExprs.{clause_back, body_back, function_name_back, definition_name_back, name_to, module_back}
@@ -145,9 +139,13 @@ functions_none n gs (x ∷ vs) s q z h = (q, refl, h)
 
 functions_from : (n : ℕ) (gs : List Goal) (vs : List Value) (s : Tables) (ms : List Marked) (z : Module)
     → Completes (g.FunctionName n ∷ g.Word w.Equals ∷ g.FunctionBody n ∷ g.Build f.Function ∷ g.Functions n ∷ gs) vs s ms z → Completes (g.Functions n ∷ gs) vs s ms z
-functions_from n gs (v.Functions es ∷ vs) s ms z (text, digits, q, d, (r, is, (xs, x, u, o, body, (fs, i, k, more, h)))) =
-    (exprs.function (named_by (atom_number s text) digits) xs x ∷ fs, i, k, exprs.some_functions (name_to d is) body more,
-    subst (λ (j : List Function). Completes gs (v.Functions j ∷ vs) i k z) (append_assoc es (exprs.function (named_by (atom_number s text) digits) xs x ∷ []) fs) h)
+functions_from n gs (v.Functions es ∷ vs) s ms z (text, digits, q, d, (r, is, (xs, x, u, o, body, (fs, i, k, more, h)))) = (
+  exprs.function (named_by (atom_number s text) digits) xs x ∷ fs,
+  i,
+  k,
+  exprs.some_functions (name_to d is) body more,
+  subst (λ (j : List Function). Completes gs (v.Functions j ∷ vs) i k z) (append_assoc es (exprs.function (named_by (atom_number s text) digits) xs x ∷ []) fs) h,
+)
 functions_from n gs _ s ms z (text, digits, q, d, (r, is, (xs, x, u, o, body, h))) = absurd h
 
 functions_back : (n : ℕ) (gs : List Goal) (vs : List Value) (s : Tables) (token : Token) (q : List Marked) (z : Module) → Moves (goal_moved (g.Functions n) gs vs s token) q z
@@ -167,9 +165,13 @@ definitions_none n gs (x ∷ vs) s q z h = (q, refl, h)
 
 definitions_from : (n : ℕ) (gs : List Goal) (vs : List Value) (s : Tables) (ms : List Marked) (z : Module)
     → Completes (g.DefinitionName n ∷ g.Word w.Equals ∷ g.FunctionBody n ∷ g.Build f.Definition ∷ g.Definitions n ∷ gs) vs s ms z → Completes (g.Definitions n ∷ gs) vs s ms z
-definitions_from n gs (v.Functions es ∷ vs) s ms z (text, digits, q, d, inl (never, (r, is, (xs, x, u, o, body, (fs, i, k, more, h))))) =
-    (exprs.function (named_by (atom_number s text) digits) xs x ∷ fs, i, k, mods.kept_definition (name_to d is) never body more,
-    subst (λ (j : List Function). Completes gs (v.Functions j ∷ vs) i k z) (append_assoc es (exprs.function (named_by (atom_number s text) digits) xs x ∷ []) fs) h)
+definitions_from n gs (v.Functions es ∷ vs) s ms z (text, digits, q, d, inl (never, (r, is, (xs, x, u, o, body, (fs, i, k, more, h))))) = (
+  exprs.function (named_by (atom_number s text) digits) xs x ∷ fs,
+  i,
+  k,
+  mods.kept_definition (name_to d is) never body more,
+  subst (λ (j : List Function). Completes gs (v.Functions j ∷ vs) i k z) (append_assoc es (exprs.function (named_by (atom_number s text) digits) xs x ∷ []) fs) h,
+)
 definitions_from n gs (v.Functions es ∷ vs) s ms z (text, digits, q, d, inr (dropped, (r, is, (xs, x, u, o, body, (fs, i, k, more, h))))) =
     (fs, i, k, mods.dropped_definition (name_to d is) dropped body more, h)
 definitions_from n gs _ s ms z (text, digits, q, d, inl (never, (r, is, (xs, x, u, o, body, h)))) = absurd h
@@ -256,6 +258,7 @@ settle_back (g.NameOrAtom ∷ gs) vs s ms z r is h = by (is_next w.Slash (first_
         → ((ws : List Value) → settled gs ws s (first_of ms) ≡ Some r → Completes gs ws s ms z) → Completes (g.NameOrAtom ∷ gs) vs s ms z
     passed (v.Atom a ∷ vs) never k further = inl (never, further (v.Expr (e.Atom a) ∷ vs) k)
     passed _ never k further = absurd cc
+
     by : (b : Bool) → is_next w.Slash (first_of ms) ≡ b → cond b (Some (state (g.NameOrAtom ∷ gs) vs s)) (with_values (atom_built vs) (λ ws. settled gs ws s (first_of ms))) ≡ Some r
         → ((ws : List Value) → settled gs ws s (first_of ms) ≡ Some r → Completes gs ws s ms z) → Completes (g.NameOrAtom ∷ gs) vs s ms z
     by true eq k further = at_rest (state (g.NameOrAtom ∷ gs) vs s) r ms z k h

@@ -1,15 +1,10 @@
 -- From what is to be read behind a token to what is to be read before it: every goal, and one step.
-use Rattle.std.proofs.Common.{◌≡◌, ℕ, ◌+◌, ◌≤◌, ◌<◌, leb, Bool, true, false, cond, List, [], ◌∷◌, ◌++◌, Option, Some, None, Result, Ok, Err, ◌⊎◌, inl, inr, refl, sym, ap, subst, ◌∙◌, arith}
+use Rattle.std.proofs.Common.{◌≡◌, ℕ, ◌+◌, true, false, cond, List, [], ◌∷◌, ◌++◌, Some, None, ◌⊎◌, inl, inr, refl, sym, subst}
 use Rattle.std.proofs.lemmas.List.{append_assoc, append-nil}
-use Rattle.std.proofs.lemmas.Bool.Decides.{leb_tells}
-use Rattle.hy_core.specs.Marks.{Marked, at, constant, plain, word, arity, value, number}
-use Rattle.hy_core.specs.Numbering.{atom_number, with_atom, variable_number, with_variable, no_tables}
+use Rattle.hy_core.specs.Marks.{Marked, at, constant, plain, word, value}
 use Rattle.hy_core.specs.Annotations as notes
 use Rattle.hy_core.specs.Annotations.{IsConstant, AreConstants, AreMoreConstants, IsConstantList, IsConstantEnd, IsConstantTail, IsNote, IsAtom, IsName, IsAttributeValue, AreAttributes, AreMoreAttributes}
-use Rattle.hy_core.specs.declared.token.Word.{Word}
 use Rattle.hy_core.specs.declared.token.Word.TheVariants as w
-use Rattle.hy_core.specs.declared.token.Sign.{Sign}
-use Rattle.hy_core.specs.declared.token.Sign.TheVariants as sign
 use Rattle.hy_core.specs.declared.token.Token.{Token}
 use Rattle.hy_core.specs.declared.token.Token.TheVariants as t
 use Rattle.hy_core.specs.declared.tables.Tables.{Tables}
@@ -17,37 +12,30 @@ use Rattle.hy_core.specs.declared.tree.Module.{Module}
 use Rattle.core_reader.specs.declared.state.Part.{Part}
 use Rattle.core_reader.specs.declared.state.Part.TheVariants as part
 use Rattle.core_reader.specs.declared.state.Closer.{Closer}
-use Rattle.core_reader.specs.declared.state.Closer.TheVariants as closer
 use Rattle.core_reader.specs.declared.state.Form.TheVariants as f
 use Rattle.core_reader.specs.declared.state.Goal.{Goal}
 use Rattle.core_reader.specs.declared.state.Goal.TheVariants as g
 use Rattle.core_reader.specs.declared.state.Value.{Value}
 use Rattle.core_reader.specs.declared.state.Value.TheVariants as v
-use Rattle.core_reader.specs.declared.state.State.{State}
 use Rattle.hy_core.specs.Patterns as pats
 use Rattle.hy_core.specs.Patterns.{IsNotBefore, IsPatternTail}
 use Rattle.hy_core.specs.Expressions as exprs
 use Rattle.hy_core.specs.Expressions.{named_by, IsTail}
 use Rattle.hy_core.specs.Grammar as mods
 use Rattle.hy_core.specs.Grammar.{the_module_info, IsDropped}
-use Rattle.core_reader.specs.Machine.{state, closing, on, is_word, is_next, with_values, with_built, part_begun, info_arity_moved, info_export_moved, aliased_by, behind_note, goal_moved, part_mark, mark, settled, taken, taken_from, stepped, checked}
-use Rattle.core_reader.specs.Trees.{opened, added, closed, built, atom_built, behind_heads, behind_head_patterns}
-use Rattle.core_reader.proofs.Tests.{first_of, is_itself, word_at, not_word, not_next, next_not}
+use Rattle.core_reader.specs.Machine.{state, closing, is_word, with_values, part_begun, goal_moved, part_mark, mark}
+use Rattle.core_reader.specs.Trees.{opened, added, closed, behind_heads, behind_head_patterns}
+use Rattle.core_reader.proofs.Tests.{word_at, not_word}
 use Rattle.core_reader.proofs.Joins.{join_front, join_front_patterns}
-use Rattle.core_reader.proofs.Meaning.{Completes, OnBuilt, DefinedThen, ExportedThen}
+use Rattle.core_reader.proofs.Meaning.{Completes}
 use Rattle.core_reader.proofs.Forth.{Moves}
-use Rattle.core_reader.proofs.Back.{if_back, on_back, at_word, note_back, constant_back, key_back, primop_back, value_back, attribute_back, variable_back, bindings_back, pattern_back, pattern_aliased}
-use Rattle.core_reader.proofs.BackExprs.{expr_back, clause_back, body_back, function_name_back, definition_name_back, export_back, name_to, module_back}
-use Rattle.hy_core.specs.declared.refusal.RefusalKind.{RefusalKind}
-use Rattle.hy_core.specs.declared.refusal.RefusalKind.TheVariants.{Unexpected}
+use Rattle.core_reader.proofs.Back.{if_back, at_word, constant_back, attribute_back, variable_back, pattern_back}
+use Rattle.core_reader.proofs.BackExprs.{expr_back, export_back}
 use Rattle.hy_core.specs.declared.tree.FunName.{FunName}
-use Rattle.hy_core.specs.declared.tree.Function.{Function}
-use Rattle.hy_core.specs.declared.tree.Clause.{Clause}
 use Rattle.hy_core.specs.declared.tree.Pattern.{Pattern}
 use Rattle.hy_core.specs.declared.tree.Pattern.TheVariants as p
 use Rattle.hy_core.specs.declared.tree.Expr.{Expr}
 use Rattle.hy_core.specs.declared.tree.Expr.TheVariants as e
-use Rattle.core_reader.specs.declared.state.Form.{Form}
 
 pub part_back : (k : Part) (n : ℕ) (gs : List Goal) (vs : List Value) (s : Tables) (token : Token) (q : List Marked) (z : Module) → Moves (part_begun k n gs vs s token) q z
     → Completes (g.Part k n ∷ gs) vs s (part_mark k n token ∷ q) z
@@ -123,6 +111,7 @@ more_back k n c gs vs s token q z h = by (if_back (is_word (closing c) token) _ 
         → Completes (g.MoreParts k n c ∷ gs) vs s (plain token ∷ q) z
     comma (inl (is, r)) = at_word (g.MoreParts k n c ∷ gs) vs s w.Comma token q z (word_at w.Comma token is) (more_one k n c gs vs s q z r)
     comma (inr (is, r)) = absurd r
+
     by : ((is_word (closing c) token ≡ true) × Moves (with_values (added k vs) (λ ws. Some (state gs ws s))) q z)
         ⊎ ((is_word (closing c) token ≡ false) × Moves (cond (is_word w.Comma token) (with_values (added k vs) (λ ws. Some (state (g.Part k n ∷ g.MoreParts k n c ∷ gs) ws s))) None) q z)
         → Completes (g.MoreParts k n c ∷ gs) vs s (plain token ∷ q) z
@@ -203,11 +192,13 @@ ends_back k n gs vs s token q z h = by (if_back (is_word w.CloseList token) _ _ 
         → Completes (g.MoreHeads k n ∷ gs) vs s (plain token ∷ q) z
     bar (inl (is, r)) = at_word (g.MoreHeads k n ∷ gs) vs s w.Bar token q z (word_at w.Bar token is) (ends_tail k n gs vs s q z r)
     bar (inr (is, r)) = absurd r
+
     comma : ((is_word w.Comma token ≡ true) × Moves (with_values (added k vs) (λ ws. Some (state (g.Part k (n + 1) ∷ g.MoreHeads k n ∷ gs) ws s))) q z)
         ⊎ ((is_word w.Comma token ≡ false) × Moves (cond (is_word w.Bar token) (with_values (added k vs) (λ ws. Some (state (g.Tail k n ∷ gs) ws s))) None) q z)
         → Completes (g.MoreHeads k n ∷ gs) vs s (plain token ∷ q) z
     comma (inl (is, r)) = at_word (g.MoreHeads k n ∷ gs) vs s w.Comma token q z (word_at w.Comma token is) (ends_next k n gs vs s q z r)
     comma (inr (is, r)) = bar (if_back (is_word w.Bar token) _ _ q z r)
+
     by : ((is_word w.CloseList token ≡ true) × Moves (with_values (added k vs) (λ ws. with_values (closed k ws) (λ os. Some (state gs os s)))) q z)
         ⊎ ((is_word w.CloseList token ≡ false) × Moves (cond (is_word w.Comma token) (with_values (added k vs) (λ ws. Some (state (g.Part k (n + 1) ∷ g.MoreHeads k n ∷ gs) ws s)))
         (cond (is_word w.Bar token) (with_values (added k vs) (λ ws. Some (state (g.Tail k n ∷ gs) ws s))) None)) q z)

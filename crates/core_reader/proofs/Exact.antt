@@ -1,10 +1,8 @@
 -- What the machine reads is in the grammar, and what it refuses is refused there; both ways.
-use Rattle.std.proofs.Common.{◌≡◌, ℕ, suc, ◌+◌, ◌≤◌, ◌<◌, ◌^◌, leb, ltb, Bool, true, false, cond, List, [], ◌∷◌, ◌++◌, length, Option, Some, None, Result, Ok, Err, ◌⊎◌, inl, inr, refl, sym, ap, subst, ◌∙◌, arith}
+use Rattle.std.proofs.Common.{◌≡◌, ℕ, suc, ◌+◌, ◌≤◌, ◌<◌, ◌^◌, leb, ltb, Bool, true, false, cond, List, [], ◌∷◌, Option, Some, None, Result, Ok, Err, ◌⊎◌, inl, inr, refl, sym, ap, subst, ◌∙◌, arith}
 use Rattle.std.proofs.lemmas.Bool.{ltb-true, lt-ltb, leb-true, le-leb}
 use Rattle.std.proofs.lemmas.Bool.Decides.{leb_tells}
 use Rattle.hy_core.specs.Marks.{Marked, at, constant, plain, word, arity, value, number}
-use Rattle.hy_core.specs.Numbering.{atom_number, with_atom, variable_number, with_variable, no_tables}
-use Rattle.hy_core.specs.declared.token.Word.{Word}
 use Rattle.hy_core.specs.declared.token.Word.TheVariants as w
 use Rattle.hy_core.specs.declared.token.Sign.{Sign}
 use Rattle.hy_core.specs.declared.token.Sign.TheVariants as sign
@@ -17,20 +15,15 @@ use Rattle.core_reader.specs.declared.state.Part.TheVariants as part
 use Rattle.core_reader.specs.declared.state.Goal.{Goal}
 use Rattle.core_reader.specs.declared.state.Goal.TheVariants as g
 use Rattle.core_reader.specs.declared.state.Value.{Value}
-use Rattle.core_reader.specs.declared.state.Value.TheVariants as v
 use Rattle.core_reader.specs.declared.state.State.{State}
 use Rattle.hy_core.specs.Marks.{Role, IsInRange, IsShallow, Fits as IsFitting, IsSound, AreSound, tokens_of}
 use Rattle.hy_core.specs.Marks as marks
-use Rattle.hy_core.specs.Grammar.{IsModuleAt, IsModule, module_of}
-use Rattle.hy_core.specs.Reading.{Reads}
-use Rattle.core_reader.specs.Machine.{state, is_word, word_in, closing, in_range, fits, part_mark, mark, goal_moved, settled, checked, taken, taken_from, stepped, finished, finished_from, ended, Reading, ended_at, goes_on, run, start}
-use Rattle.core_reader.proofs.Tests.{first_of}
-use Rattle.core_reader.proofs.Meaning.{Completes, tables_of}
-use Rattle.core_reader.proofs.Forth.{Moves, Forth}
-use Rattle.core_reader.proofs.ForthGoals.{SitsOn, settle_forth, goal_forth, Next, step_forth}
+use Rattle.core_reader.specs.Machine.{state, is_word, word_in, closing, in_range, fits, part_mark, mark, goal_moved, settled, checked, taken_from, stepped, finished, finished_from, ended, ended_at, goes_on, run}
+use Rattle.core_reader.proofs.Meaning.{Completes}
+use Rattle.core_reader.proofs.Forth.{Moves}
+use Rattle.core_reader.proofs.ForthGoals.{SitsOn, settle_forth, goal_forth, step_forth}
 use Rattle.core_reader.proofs.BackGoals.{goal_back, settle_back}
-use Rattle.core_reader.proofs.Fitting.{Fits, FitsOrDone, FitsState, FitsSome, goal_fits, settle_fits, left_over}
-use Rattle.core_reader.proofs.Living.{alive_or}
+use Rattle.core_reader.proofs.Fitting.{FitsOrDone, FitsState, FitsSome, goal_fits, settle_fits, left_over}
 use Rattle.hy_core.specs.declared.refusal.RefusalKind.{RefusalKind}
 use Rattle.hy_core.specs.declared.refusal.RefusalKind.TheVariants as k
 
@@ -245,6 +238,7 @@ of_ended r z h = by (settled r.goals r.values r.tables None) refl h
     at : (gs : List Goal) (vs : List Value) (s : Tables) → settled r.goals r.values r.tables None ≡ Some (state gs vs s) → finished gs vs s ≡ Some z → Lang r [] z
     at [] vs s is c = settle_back r.goals r.values r.tables [] z (state [] vs s) is (refl, c)
     at (goal ∷ gs) vs s is c = absurd cc
+
     by : (o : Option State) → settled r.goals r.values r.tables None ≡ o → finished_from o ≡ Some z → Lang r [] z
     by None is c = absurd cc
     by (Some rest) is c = at rest.goals rest.values rest.tables is c

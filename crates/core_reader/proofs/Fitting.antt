@@ -1,37 +1,23 @@
 -- Values fit the goals: whatever is read next, each tree finds its parts. So each state that is reached can be completed.
-use Rattle.std.proofs.Common.{◌≡◌, ℕ, ◌+◌, ◌≤◌, leb, Bool, true, false, cond, List, [], ◌∷◌, ◌++◌, Option, Some, None, ◌⊎◌, inl, inr, refl, sym, ap, subst, ◌∙◌, arith}
-use Rattle.hy_core.specs.Marks.{Marked, at, constant, plain, word, arity, value, number}
-use Rattle.hy_core.specs.Numbering.{atom_number, with_atom, variable_number, with_variable, no_tables}
-use Rattle.hy_core.specs.Annotations as notes
-use Rattle.hy_core.specs.Annotations.{IsConstant, AreConstants, AreMoreConstants, IsConstantList, IsConstantEnd, IsConstantTail, IsNote, IsAtom, IsName, IsAttributeValue, AreAttributes, AreMoreAttributes}
+use Rattle.std.proofs.Common.{◌≡◌, ℕ, ◌+◌, leb, Bool, true, false, cond, List, [], ◌∷◌, Option, Some, None, refl}
+use Rattle.hy_core.specs.Marks.{value}
 use Rattle.hy_core.specs.declared.token.Word.{Word}
 use Rattle.hy_core.specs.declared.token.Word.TheVariants as w
-use Rattle.hy_core.specs.declared.token.Sign.{Sign}
 use Rattle.hy_core.specs.declared.token.Sign.TheVariants as sign
 use Rattle.hy_core.specs.declared.token.Token.{Token}
 use Rattle.hy_core.specs.declared.token.Token.TheVariants as t
 use Rattle.hy_core.specs.declared.tables.Tables.{Tables}
-use Rattle.hy_core.specs.declared.tree.Module.{Module}
 use Rattle.core_reader.specs.declared.state.Part.{Part}
 use Rattle.core_reader.specs.declared.state.Part.TheVariants as part
 use Rattle.core_reader.specs.declared.state.Closer.{Closer}
-use Rattle.core_reader.specs.declared.state.Closer.TheVariants as closer
 use Rattle.core_reader.specs.declared.state.Form.TheVariants as f
 use Rattle.core_reader.specs.declared.state.Goal.{Goal}
 use Rattle.core_reader.specs.declared.state.Goal.TheVariants as g
 use Rattle.core_reader.specs.declared.state.Value.{Value}
 use Rattle.core_reader.specs.declared.state.Value.TheVariants as v
 use Rattle.core_reader.specs.declared.state.State.{State}
-use Rattle.hy_core.specs.Patterns as pats
-use Rattle.hy_core.specs.Patterns.{IsNotBefore}
-use Rattle.hy_core.specs.Expressions as exprs
-use Rattle.hy_core.specs.Expressions.{named_by}
-use Rattle.hy_core.specs.Grammar as mods
-use Rattle.hy_core.specs.Grammar.{IsDropped, the_module_info, module_of}
-use Rattle.core_reader.specs.Machine.{state, closing, on, is_word, is_next, is_info, with_values, with_built, part_begun, expr_begun, pattern_begun, constant_begun, variable_begun, export_begun, key_begun, attribute_begun, value_begun, primop_begun, function_begun, definition_begun, body_begun, clause_begun, module_begun, info_arity_moved, info_export_moved, aliased_by, goal_moved, settled, finished_from}
-use Rattle.core_reader.specs.Trees.{opened, added, closed, built, atom_built}
-use Rattle.core_reader.proofs.Tests.{not_word}
-use Rattle.core_reader.proofs.Meaning.{Completes, OnBuilt}
+use Rattle.core_reader.specs.Machine.{closing, on, is_word, is_next, is_info, with_built, part_begun, expr_begun, pattern_begun, constant_begun, variable_begun, export_begun, key_begun, value_begun, primop_begun, function_begun, definition_begun, body_begun, clause_begun, module_begun, aliased_by, goal_moved, settled, finished_from}
+use Rattle.core_reader.specs.Trees.{built}
 use Rattle.hy_core.specs.declared.tree.FunName.{FunName}
 use Rattle.hy_core.specs.declared.tree.Function.{Function}
 use Rattle.hy_core.specs.declared.tree.Clause.{Clause}
@@ -39,7 +25,6 @@ use Rattle.hy_core.specs.declared.tree.Pattern.{Pattern}
 use Rattle.hy_core.specs.declared.tree.Pattern.TheVariants as p
 use Rattle.hy_core.specs.declared.tree.Expr.{Expr}
 use Rattle.hy_core.specs.declared.tree.Expr.TheVariants as e
-use Rattle.core_reader.specs.declared.state.Form.{Form}
 
 -- ---- what fits
 

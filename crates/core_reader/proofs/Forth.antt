@@ -1,14 +1,12 @@
 -- What is to be read, one token on: constants, annotations, variables and patterns.
-use Rattle.std.proofs.Common.{◌≡◌, ℕ, ◌+◌, Bool, true, false, List, [], ◌∷◌, ◌++◌, Option, Some, None, ◌⊎◌, inl, inr, refl, sym, ap, subst, ◌∙◌}
+use Rattle.std.proofs.Common.{◌≡◌, ℕ, ◌+◌, List, [], ◌∷◌, ◌++◌, Option, Some, None, inl, inr, refl, sym, subst}
 use Rattle.std.proofs.lemmas.List.{append_assoc, append-nil}
-use Rattle.hy_core.specs.Marks.{Marked, at, constant, plain, word, arity, value, number}
-use Rattle.hy_core.specs.Numbering.{atom_number, with_atom, variable_number, with_variable, no_tables}
+use Rattle.hy_core.specs.Marks.{Marked, at, constant, plain, word, value}
+use Rattle.hy_core.specs.Numbering.{atom_number, with_atom}
 use Rattle.hy_core.specs.Annotations as notes
 use Rattle.hy_core.specs.Annotations.{IsConstant, AreConstants, AreMoreConstants, IsConstantList, IsConstantEnd, IsConstantTail, IsNote, IsAtom, IsName, IsAttributeValue, AreAttributes, AreMoreAttributes}
 use Rattle.hy_core.specs.declared.token.Word.{Word}
 use Rattle.hy_core.specs.declared.token.Word.TheVariants as w
-use Rattle.hy_core.specs.declared.token.Sign.{Sign}
-use Rattle.hy_core.specs.declared.token.Sign.TheVariants as sign
 use Rattle.hy_core.specs.declared.token.Token.{Token}
 use Rattle.hy_core.specs.declared.token.Token.TheVariants as t
 use Rattle.hy_core.specs.declared.tables.Tables.{Tables}
@@ -25,9 +23,9 @@ use Rattle.core_reader.specs.declared.state.Value.TheVariants as v
 use Rattle.core_reader.specs.declared.state.State.{State}
 use Rattle.hy_core.specs.Patterns as pats
 use Rattle.hy_core.specs.Patterns.{IsVariable, AreVariables, AreMoreVariables, BindsValues, IsNotBefore, IsAliased, IsPattern, ArePatterns, AreMorePatterns, IsPatternList, IsPatternEnd, IsPatternTail}
-use Rattle.core_reader.specs.Machine.{closing, is_word, part_begun, constant_begun, variable_begun, pattern_begun, key_begun, value_begun, primop_begun, note_rest, goal_moved, parts_moved, tail_moved, part_mark, annotation_mark, value_mark, mark}
+use Rattle.core_reader.specs.Machine.{closing, part_begun, constant_begun, variable_begun, pattern_begun, key_begun, value_begun, primop_begun, goal_moved, parts_moved, part_mark, annotation_mark, value_mark, mark}
 use Rattle.core_reader.specs.Trees.{opened, behind_head_patterns}
-use Rattle.core_reader.proofs.Tests.{Opens, is_closer, not_closing, is_itself, is_not}
+use Rattle.core_reader.proofs.Tests.{Opens, not_closing, is_itself, is_not}
 use Rattle.core_reader.proofs.Meaning.{Completes}
 use Rattle.core_reader.proofs.Joins.{join_front_patterns}
 use Rattle.hy_core.specs.declared.tree.Pattern.{Pattern}

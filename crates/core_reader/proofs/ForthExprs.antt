@@ -1,22 +1,16 @@
 -- What is to be read, one token on: expressions, clauses, definitions and the module.
-use Rattle.std.proofs.Common.{◌≡◌, ℕ, ◌+◌, ◌≤◌, Bool, true, false, List, [], ◌∷◌, ◌++◌, Option, Some, None, ◌⊎◌, inl, inr, refl, sym, ap, subst, ◌∙◌}
+use Rattle.std.proofs.Common.{◌≡◌, ℕ, ◌+◌, Bool, true, false, List, [], ◌∷◌, ◌++◌, inl, inr, refl, sym, ap, subst, ◌∙◌}
 use Rattle.std.proofs.lemmas.List.{append_assoc, append-nil}
-use Rattle.std.proofs.lemmas.Bool.{leb-true, le-leb}
 use Rattle.std.proofs.lemmas.Slice.Eq.{bytes_eq-Decides}
 use Rattle.hy_terms.proofs.NamingLemmas.{bytes_eq-same}
-use Rattle.hy_core.specs.Marks.{Marked, at, constant, plain, word, arity, value, number}
-use Rattle.hy_core.specs.Numbering.{atom_number, with_atom, variable_number, with_variable, no_tables}
+use Rattle.hy_core.specs.Marks.{Marked, at, word, arity}
+use Rattle.hy_core.specs.Numbering.{atom_number, with_atom}
 use Rattle.hy_core.specs.Annotations as notes
 use Rattle.hy_core.specs.Annotations.{IsConstant, AreConstants, AreMoreConstants, IsConstantList, IsConstantEnd, IsConstantTail, IsNote, IsAtom, IsName, IsAttributeValue, AreAttributes, AreMoreAttributes}
-use Rattle.hy_core.specs.declared.token.Word.{Word}
 use Rattle.hy_core.specs.declared.token.Word.TheVariants as w
-use Rattle.hy_core.specs.declared.token.Sign.{Sign}
-use Rattle.hy_core.specs.declared.token.Sign.TheVariants as sign
-use Rattle.hy_core.specs.declared.token.Token.{Token}
 use Rattle.hy_core.specs.declared.token.Token.TheVariants as t
 use Rattle.hy_core.specs.declared.tables.Tables.{Tables}
 use Rattle.hy_core.specs.declared.tree.Module.{Module}
-use Rattle.core_reader.specs.declared.state.Part.{Part}
 use Rattle.core_reader.specs.declared.state.Part.TheVariants as part
 use Rattle.core_reader.specs.declared.state.Closer.{Closer}
 use Rattle.core_reader.specs.declared.state.Closer.TheVariants as closer
@@ -25,24 +19,22 @@ use Rattle.core_reader.specs.declared.state.Goal.{Goal}
 use Rattle.core_reader.specs.declared.state.Goal.TheVariants as g
 use Rattle.core_reader.specs.declared.state.Value.{Value}
 use Rattle.core_reader.specs.declared.state.Value.TheVariants as v
-use Rattle.core_reader.specs.declared.state.State.{State}
 use Rattle.hy_core.specs.Patterns as pats
 use Rattle.hy_core.specs.Patterns.{AreVariables, BindsValues, IsNotBefore, IsPattern, ArePatterns}
 use Rattle.hy_core.specs.Expressions as exprs
 use Rattle.hy_core.specs.Expressions.{named_by, IsExpr, AreExprs, AreMoreExprs, IsList, IsListEnd, IsTail, IsClause, AreClauses, IsFunction, AreFunctions}
 use Rattle.hy_core.specs.Grammar as mods
 use Rattle.hy_core.specs.Grammar.{the_module_info, IsDropped, IsExport, AreExports, AreMoreExports, AreDefinitions, IsModuleAt}
-use Rattle.core_reader.specs.Machine.{closing, is_info, part_begun, expr_begun, function_begun, definition_begun, export_begun, clause_begun, body_begun, module_begun, goal_moved, parts_moved, annotation_mark, clause_mark, arity_mark, mark}
+use Rattle.core_reader.specs.Machine.{closing, is_info, expr_begun, function_begun, definition_begun, export_begun, clause_begun, body_begun, module_begun, goal_moved, parts_moved, annotation_mark, clause_mark, mark}
 use Rattle.core_reader.specs.Trees.{behind_heads}
-use Rattle.core_reader.proofs.Tests.{Opens, is_closer, not_closing, is_itself, is_not}
-use Rattle.core_reader.proofs.Meaning.{Completes, Then, DefinedThen, ExportedThen, tables_of}
+use Rattle.core_reader.proofs.Tests.{Opens, not_closing, is_itself, is_not}
+use Rattle.core_reader.proofs.Meaning.{Completes, DefinedThen, ExportedThen, tables_of}
 use Rattle.core_reader.proofs.Joins.{join_front}
-use Rattle.core_reader.proofs.Forth.{Moves, Forth, forth_at, parts_first, parts_closed, heads_first, tail_first, note_not_before, aliased_pattern, pattern_opens, pattern_forth}
+use Rattle.core_reader.proofs.Forth.{Moves, Forth, parts_first, parts_closed, heads_first, tail_first, note_not_before, aliased_pattern, pattern_opens, pattern_forth}
 use Rattle.hy_core.specs.declared.tree.FunName.{FunName}
 use Rattle.hy_core.specs.declared.tree.Function.{Function}
 use Rattle.hy_core.specs.declared.tree.Clause.{Clause}
 use Rattle.hy_core.specs.declared.tree.Pattern.{Pattern}
-use Rattle.hy_core.specs.declared.tree.Pattern.TheVariants as p
 use Rattle.hy_core.specs.declared.tree.Expr.{Expr}
 use Rattle.hy_core.specs.declared.tree.Expr.TheVariants as e
 
@@ -228,6 +220,7 @@ definition_name_forth {n = n} {q = q} (notes.name text digits) gs vs s z h = (re
     kept : is_info text ≡ false → DefinedThen text digits vs s q (λ ws u r. Completes gs ws u r z) → Completes gs (v.Name (named_by (atom_number s text) digits) ∷ vs) (with_atom s text) q z
     kept never (inl (kept_one, k)) = k
     kept never (inr (is, k)) = absurd (not_info text never is.0)
+
     test : (b : Bool) → is_info text ≡ b → Moves (definition_begun n gs vs s (t.Atom text)) (word w.Slash ∷ arity digits ∷ q) z
     test true is = rw is (_, refl, (digits, (_, refl, subst (λ (k : List ℕ). DefinedThen k digits vs s q (λ ws u r. Completes gs ws u r z)) (info_is text is) h)))
     test false is = rw is (_, refl, (digits, (_, refl, kept is h)))
@@ -244,6 +237,7 @@ export_name_forth {n = n} {q = q} (notes.name text digits) es gs vs s z h = (ref
     kept : is_info text ≡ false → ExportedThen text digits es vs s q (λ ws u r. Completes gs ws u r z) → Completes gs (v.Names (es ++ named_by (atom_number s text) digits ∷ []) ∷ vs) (with_atom s text) q z
     kept never (inl (kept_one, k)) = k
     kept never (inr (is, k)) = absurd (not_info text never is.0)
+
     test : (b : Bool) → is_info text ≡ b → Moves (export_begun n gs (v.Names es ∷ vs) s (t.Atom text)) (word w.Slash ∷ arity digits ∷ q) z
     test true is = rw is (_, refl, (digits, (_, refl, subst (λ (k : List ℕ). ExportedThen k digits es vs s q (λ ws u r. Completes gs ws u r z)) (info_is text is) h)))
     test false is = rw is (_, refl, (digits, (_, refl, kept is h)))
@@ -283,6 +277,7 @@ functions_forth {n = n} {s = s} {u = u} {ms = ms} {q = r} (exprs.some_functions 
     name_first : {n : ℕ} {ms q : List Marked} {text digits : List ℕ} → IsName n ms text digits q → IsNotBefore w.In ms
     name_first (notes.name text digits) = λ is. cc
     name_first (notes.noted d end) = λ is. cc
+
     at_first : (os : List Marked) → IsNotBefore w.In os → Forth (annotation_mark n) (function_begun n (g.Word w.Equals ∷ g.FunctionBody n ∷ g.Build f.Function ∷ g.Functions n ∷ gs) (v.Functions es ∷ vs) s) os z
         → Forth (annotation_mark n) (goal_moved (g.Functions n) gs (v.Functions es ∷ vs) s) os z
     at_first [] never k = k

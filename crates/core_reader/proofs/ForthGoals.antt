@@ -1,43 +1,32 @@
 -- What is to be read, one token on: every goal, and the trees that are built before it.
-use Rattle.std.proofs.Common.{◌≡◌, ℕ, ◌+◌, ◌≤◌, ◌<◌, leb, Bool, true, false, List, [], ◌∷◌, ◌++◌, Option, Some, None, ◌⊎◌, inl, inr, refl, sym, ap, subst, ◌∙◌}
-use Rattle.std.proofs.lemmas.Bool.{leb-true, le-leb}
+use Rattle.std.proofs.Common.{◌≡◌, ℕ, ◌≤◌, ◌<◌, leb, true, false, List, [], ◌∷◌, Option, Some, None, ◌⊎◌, inl, inr, refl, sym, ap, subst, ◌∙◌}
+use Rattle.std.proofs.lemmas.Bool.{le-leb}
 use Rattle.std.proofs.lemmas.Bool.Decides.{leb_tells}
-use Rattle.hy_core.specs.Marks.{Marked, at, constant, plain, word, arity, value, number}
-use Rattle.hy_core.specs.Numbering.{atom_number, with_atom, variable_number, with_variable, no_tables}
-use Rattle.hy_core.specs.Annotations as notes
-use Rattle.hy_core.specs.Annotations.{IsConstant, AreConstants, AreMoreConstants, IsConstantList, IsConstantEnd, IsConstantTail, IsNote, IsAtom, IsName, IsAttributeValue, AreAttributes, AreMoreAttributes}
+use Rattle.hy_core.specs.Marks.{Marked, plain, word, arity, value}
 use Rattle.hy_core.specs.declared.token.Word.{Word}
 use Rattle.hy_core.specs.declared.token.Word.TheVariants as w
-use Rattle.hy_core.specs.declared.token.Sign.{Sign}
 use Rattle.hy_core.specs.declared.token.Sign.TheVariants as sign
-use Rattle.hy_core.specs.declared.token.Token.{Token}
 use Rattle.hy_core.specs.declared.token.Token.TheVariants as t
 use Rattle.hy_core.specs.declared.tables.Tables.{Tables}
 use Rattle.hy_core.specs.declared.tree.Module.{Module}
-use Rattle.core_reader.specs.declared.state.Part.{Part}
 use Rattle.core_reader.specs.declared.state.Part.TheVariants as part
 use Rattle.core_reader.specs.declared.state.Closer.{Closer}
-use Rattle.core_reader.specs.declared.state.Closer.TheVariants as closer
-use Rattle.core_reader.specs.declared.state.Form.TheVariants as f
 use Rattle.core_reader.specs.declared.state.Goal.{Goal}
 use Rattle.core_reader.specs.declared.state.Goal.TheVariants as g
 use Rattle.core_reader.specs.declared.state.Value.{Value}
 use Rattle.core_reader.specs.declared.state.Value.TheVariants as v
 use Rattle.core_reader.specs.declared.state.State.{State}
 use Rattle.hy_core.specs.Patterns.{IsNotBefore}
-use Rattle.hy_core.specs.Expressions.{named_by}
-use Rattle.hy_core.specs.Grammar.{the_module_info, IsDropped}
-use Rattle.core_reader.specs.Machine.{state, closing, is_word, word_in, is_next, with_built, goal_moved, info_arity_moved, info_export_moved, aliased_by, behind_note, mark, settled, taken, taken_from, stepped, checked}
+use Rattle.hy_core.specs.Grammar.{the_module_info}
+use Rattle.core_reader.specs.Machine.{state, closing, word_in, is_next, with_built, goal_moved, info_arity_moved, info_export_moved, aliased_by, mark, settled, taken_from, stepped, checked}
 use Rattle.core_reader.specs.Trees.{built}
-use Rattle.core_reader.proofs.Tests.{first_of, is_itself, word_at, not_next, next_not}
+use Rattle.core_reader.proofs.Tests.{first_of, is_itself, not_next}
 use Rattle.core_reader.proofs.Meaning.{Completes, OnBuilt, DefinedThen, ExportedThen}
 use Rattle.core_reader.proofs.Forth.{Moves, Forth, forth_at, constant_forth, constants_forth, more_constants_forth, constant_list_forth, constant_end_forth, constant_tail_forth, note_forth, key_forth, primop_forth, value_forth, attribute_forth, attributes_forth, more_attributes_forth, variable_forth, variables_forth, more_variables_forth, bindings_forth, pattern_forth, patterns_forth, more_patterns_forth, pattern_list_forth, pattern_end_forth, pattern_tail_forth}
 use Rattle.core_reader.proofs.ForthExprs.{expr_forth, exprs_forth, more_exprs_forth, list_forth, list_end_forth, tail_forth, clause_forth, clauses_forth, body_forth, function_name_forth, definition_name_forth, export_forth, exports_forth, more_exports_forth, functions_forth, definitions_forth, module_forth}
 use Rattle.hy_core.specs.declared.tree.FunName.{FunName}
 use Rattle.hy_core.specs.declared.tree.Pattern.{Pattern}
-use Rattle.hy_core.specs.declared.tree.Pattern.TheVariants as p
 use Rattle.hy_core.specs.declared.tree.Expr.TheVariants as e
-use Rattle.core_reader.specs.declared.state.Form.{Form}
 
 -- the goal takes the first token: nothing is to be built, and it isn't passed over
 abbrev pub Sits : Goal → Option Word → Type 0
@@ -251,5 +240,5 @@ step_forth r m q z h =
     at (goal ∷ gs) vs s is sits c =
         let forth = goal_forth goal gs vs s (m ∷ q) z sits c in
         let steps : stepped r m.token ≡ checked m (goal_moved goal gs vs s m.token) =
-            ap (λ (o : Option State). taken_from o m.token) is ∙ ap (λ (k : Marked). checked k (goal_moved goal gs vs s m.token)) forth.0 in
+        ap (λ (o : Option State). taken_from o m.token) is ∙ ap (λ (k : Marked). checked k (goal_moved goal gs vs s m.token)) forth.0 in
         next_of r m q z (goal_moved goal gs vs s m.token) steps forth.1

@@ -1,27 +1,22 @@
 -- Each state whose values fit can be completed.
-use Rattle.std.proofs.Common.{◌≡◌, ℕ, ◌+◌, ◌≤◌, Bool, true, false, List, [], ◌∷◌, ◌++◌, Option, Some, None, ◌⊎◌, inl, inr, refl, arith}
+use Rattle.std.proofs.Common.{◌≡◌, ℕ, ◌+◌, true, false, List, [], ◌∷◌, ◌++◌, Option, Some, None, inl, inr, refl, arith}
 use Rattle.hy_core.specs.Marks.{Marked, at, constant, plain, word, arity, value, number}
 use Rattle.hy_core.specs.Numbering.{atom_number, with_atom, variable_number, with_variable, no_tables}
 use Rattle.hy_core.specs.Annotations as notes
 use Rattle.hy_core.specs.Annotations.{IsConstant, AreConstants, AreMoreConstants, IsConstantList, IsConstantEnd, IsConstantTail, IsNote, IsAtom, IsName, IsAttributeValue, AreAttributes, AreMoreAttributes}
-use Rattle.hy_core.specs.declared.token.Word.{Word}
 use Rattle.hy_core.specs.declared.token.Word.TheVariants as w
-use Rattle.hy_core.specs.declared.token.Sign.{Sign}
 use Rattle.hy_core.specs.declared.token.Sign.TheVariants as sign
 use Rattle.hy_core.specs.declared.token.Token.{Token}
 use Rattle.hy_core.specs.declared.token.Token.TheVariants as t
 use Rattle.hy_core.specs.declared.tables.Tables.{Tables}
 use Rattle.hy_core.specs.declared.tree.Module.{Module}
-use Rattle.core_reader.specs.declared.state.Part.{Part}
 use Rattle.core_reader.specs.declared.state.Part.TheVariants as part
 use Rattle.core_reader.specs.declared.state.Closer.{Closer}
 use Rattle.core_reader.specs.declared.state.Closer.TheVariants as closer
-use Rattle.core_reader.specs.declared.state.Form.TheVariants as f
 use Rattle.core_reader.specs.declared.state.Goal.{Goal}
 use Rattle.core_reader.specs.declared.state.Goal.TheVariants as g
 use Rattle.core_reader.specs.declared.state.Value.{Value}
 use Rattle.core_reader.specs.declared.state.Value.TheVariants as v
-use Rattle.core_reader.specs.declared.state.State.{State}
 use Rattle.hy_core.specs.Patterns as pats
 use Rattle.hy_core.specs.Patterns.{IsNotBefore}
 use Rattle.hy_core.specs.Expressions as exprs
@@ -31,10 +26,8 @@ use Rattle.hy_core.specs.Grammar.{IsDropped, the_module_info, module_of}
 use Rattle.core_reader.specs.Machine.{closing}
 use Rattle.core_reader.specs.Trees.{built}
 use Rattle.core_reader.proofs.Tests.{not_word}
-use Rattle.core_reader.proofs.Meaning.{Completes, OnBuilt, ClauseWhenThen}
+use Rattle.core_reader.proofs.Meaning.{Completes, ClauseWhenThen}
 use Rattle.core_reader.proofs.Fitting.{Quiet, IfBuilt, Fits, FitsOrDone}
-use Rattle.hy_core.specs.declared.tree.FunName.{FunName}
-use Rattle.hy_core.specs.declared.tree.Function.{Function}
 use Rattle.hy_core.specs.declared.tree.Clause.{Clause}
 use Rattle.hy_core.specs.declared.tree.Pattern.{Pattern}
 use Rattle.hy_core.specs.declared.tree.Pattern.TheVariants as p

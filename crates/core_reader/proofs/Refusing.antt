@@ -1,5 +1,5 @@
 -- The first wrong token is the one that the machine refuses, both ways.
-use Rattle.std.proofs.Common.{◌≡◌, ℕ, suc, ◌+◌, ◌≤◌, ◌<◌, List, [], ◌∷◌, ◌++◌, length, Option, Some, None, Result, Ok, Err, refl, sym, ap, subst, ◌∙◌, arith}
+use Rattle.std.proofs.Common.{◌≡◌, ℕ, suc, ◌+◌, ◌<◌, List, [], ◌∷◌, ◌++◌, length, Option, Some, None, Result, Ok, Err, refl, sym, ap, subst, ◌∙◌, arith}
 use Rattle.hy_core.specs.Marks.{Marked, IsShallow, Fits as IsFitting, IsSound, AreSound, tokens_of}
 use Rattle.hy_core.specs.declared.token.Token.{Token}
 use Rattle.hy_core.specs.declared.tree.Module.{Module}
@@ -8,7 +8,7 @@ use Rattle.hy_core.specs.declared.refusal.RefusalKind.TheVariants as k
 use Rattle.core_reader.specs.Machine.{checked, stepped, ended, ended_at, Reading, goes_on, run}
 use Rattle.core_reader.proofs.ForthGoals.{step_forth}
 use Rattle.core_reader.proofs.Living.{alive_or}
-use Rattle.core_reader.proofs.Exact.{Lang, FitsIn, Looked, sound, deep, range, looked, checked_deep, checked_range, never_unexpected, View, stuck, moves, view, Step, step_of, ended_of, not_over}
+use Rattle.core_reader.proofs.Exact.{Lang, FitsIn, Looked, sound, deep, range, looked, checked_deep, checked_range, never_unexpected, View, stuck, moves, view, step_of, ended_of, not_over}
 use Rattle.core_reader.specs.declared.state.State.{State}
 
 -- Below, Is says which marked tokens complete what is read, and with which tree.
@@ -127,8 +127,10 @@ run_refused (t ∷ ts) i r kind j fit h = by (view r t fit) (λ next fits_there 
     -- the fault of this token
     here_is : (fault : RefusalKind) → stepped r t ≡ Err fault → (fault ≡ kind) × (i ≡ j)
     here_is fault is = same_fault fault kind i j (goes_on i (stepped r t) (λ q. run (suc i) ts q)) (ap (λ (o : Result State RefusalKind). goes_on i o (λ q. run (suc i) ts q)) is) h
+
     at_once : (fault : RefusalKind) → (fault ≡ kind) × (i ≡ j) → Why (Lang r) fault 0 (t ∷ ts) → Refuses r kind i j (t ∷ ts)
     at_once fault same why = (0, (let place = same.1 in omega (arith, place)), subst (λ (o : RefusalKind). Why (Lang r) o 0 (t ∷ ts)) same.0 why)
+
     by : View r t → ((next : State) → FitsIn next → run (suc i) ts next ≡ Err (kind, j) → Refuses next kind (suc i) j ts) → Refuses r kind i j (t ∷ ts)
     by (stuck is) further =
         let live = alive_or r.goals r.values r.tables fit in
@@ -178,6 +180,7 @@ unexpected_run [] after t i r fit (goes, never) = by (view r t fit)
   where
     place : i ≡ i + 0
     place = omega arith
+
     by : View r t → run i (t ∷ after) r ≡ Err (k.Unexpected, i + 0)
     by (stuck is) = run_off i t after r k.Unexpected is ∙ ap (λ (j : ℕ). Err (k.Unexpected, j)) place
     by (moves m next here is back fits_there) =
@@ -213,6 +216,7 @@ ended_run [] i r fit ([], more, m, z, is, good, c) = by (ended r) refl
   where
     place : i ≡ i + 0
     place = omega arith
+
     by : (o : Option Module) → ended r ≡ o → ended_at i (ended r) ≡ Err (k.Ended, i + 0)
     by None eq = ap (ended_at i) eq ∙ ap (λ (j : ℕ). Err (k.Ended, j)) place
     by (Some y) eq = absurd (not_over r y m more z fit eq c)

@@ -1,7 +1,7 @@
 -- What the machine's tests of a token say.
-use Rattle.std.proofs.Common.{◌≡◌, ℕ, Bool, true, false, eqb, List, [], ◌∷◌, Option, Some, None, if◌then◌else◌, ◌==◌, refl, sym, ap, ◌∙◌}
+use Rattle.std.proofs.Common.{◌≡◌, ℕ, Bool, true, false, List, [], ◌∷◌, Option, Some, None, if◌then◌else◌, ◌==◌, refl, sym, ap, ◌∙◌}
 use Rattle.std.proofs.lemmas.Bool.{eqb-true}
-use Rattle.hy_core.specs.Marks.{Marked, word}
+use Rattle.hy_core.specs.Marks.{Marked}
 use Rattle.hy_core.specs.Patterns.{IsNotBefore}
 use Rattle.core_reader.specs.Machine.{code, is_word, word_in, is_next, closing}
 use Rattle.hy_core.specs.declared.token.Word.{Word}

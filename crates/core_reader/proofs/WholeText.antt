@@ -1,9 +1,9 @@
 -- The verdict on a text is the one that the grammar gives.
-use Rattle.std.proofs.Common.{◌≡◌, ℕ, suc, ◌+◌, ◌-◌, ◌≤◌, ◌<◌, ◌^◌, List, [], ◌∷◌, ◌++◌, length, Option, Some, None, Result, Ok, Err, ◌⊎◌, inl, inr, refl, sym, ap, subst, ◌∙◌, arith, slice_get}
+use Rattle.std.proofs.Common.{◌≡◌, ℕ, suc, ◌+◌, ◌-◌, ◌≤◌, ◌^◌, List, [], ◌∷◌, ◌++◌, length, Some, Result, Ok, Err, ◌⊎◌, inl, inr, refl, sym, ap, subst, ◌∙◌, arith, slice_get}
 use Rattle.std.specs.Prelude.{IfOk}
 use Rattle.std.proofs.lemmas.List.{append-nil}
 use Rattle.hy_core.specs.Tokens.{Lexes, AreWithin, EndsWithin}
-use Rattle.hy_core.specs.Marks.{Marked, AreSound, tokens_of}
+use Rattle.hy_core.specs.Marks.{Marked}
 use Rattle.hy_core.specs.Grammar.{IsModuleAt, IsModule, module_of}
 use Rattle.hy_core.specs.Numbering.{no_tables}
 use Rattle.hy_core.specs.Reading.{tokens_in, Reads, IsModuleText}
@@ -17,10 +17,10 @@ use Rattle.hy_core.specs.declared.refusal.RefusalKind.TheVariants as k
 use Rattle.hy_core.specs.declared.tree.Module.{Module}
 use Rattle.core_scan.proofs.OneLexing.{one_lexing}
 use Rattle.core_reader.specs.Machine.{Reading, run, start}
-use Rattle.core_reader.specs.Answers.{Verdict, Gives, IfRefused, left_at, behind, place_of, refused_as, verdict, GivesTokens, GivesText, too_long, of_tokens, no_memory}
+use Rattle.core_reader.specs.Answers.{Verdict, Gives, IfRefused, left_at, behind, place_of, refused_as, verdict, GivesText, too_long, of_tokens, no_memory}
 use Rattle.core_reader.proofs.Meaning.{tables_of}
-use Rattle.core_reader.proofs.Exact.{Lang, FitsIn, run_only, run_found, Found}
-use Rattle.core_reader.proofs.Refusing.{Language, BeginsBy, GoesBy, StandsBy, UnexpectedBy, EndedBy, IsDeep, IsOut, At, Why, run_refused, why_run, ended_run}
+use Rattle.core_reader.proofs.Exact.{Lang, FitsIn, run_only, run_found}
+use Rattle.core_reader.proofs.Refusing.{BeginsBy, GoesBy, StandsBy, UnexpectedBy, EndedBy, IsDeep, IsOut, At, Why, run_refused, why_run, ended_run}
 use Rattle.core_reader.specs.declared.answer.ReadAnswer.{ReadAnswer}
 use Rattle.core_reader.specs.declared.answer.ReadAnswer.TheVariants.{Refused, Memory}
 

@@ -1,5 +1,5 @@
 -- Reading one token after the other: what is still to be read lies on a stack of goals, and what was read on a stack of values.
-use Rattle.std.specs.Prelude.{Bool, true, false, ◌==◌, ℕ, suc, ◌+◌, ◌^◌, pos, nat_le, nat_lt, List, [], ◌∷◌, ◌++◌, Option, Some, None, Result, Ok, Err, if◌then◌else◌}
+use Rattle.std.specs.Prelude.{Bool, true, false, ◌==◌, ℕ, suc, ◌+◌, ◌^◌, pos, nat_le, nat_lt, List, [], ◌∷◌, Option, Some, None, Result, Ok, Err, if◌then◌else◌}
 use Rattle.std.specs.Str.{bytes_eq}
 use Rattle.hy_core.specs.Marks.{Marked, Role, Value as OfValue, Arity as OfArity, at, constant, plain, value, number}
 use Rattle.hy_core.specs.Numbering.{atom_number, with_atom, variable_number, with_variable, no_tables}
@@ -19,14 +19,12 @@ use Rattle.hy_core.specs.declared.refusal.RefusalKind.TheVariants.{Unexpected, E
 use Rattle.hy_core.specs.declared.tables.Tables.{Tables}
 use Rattle.hy_core.specs.declared.tree.Pattern.{Pattern}
 use Rattle.hy_core.specs.declared.tree.Pattern.TheVariants as p
-use Rattle.hy_core.specs.declared.tree.Expr.{Expr}
 use Rattle.hy_core.specs.declared.tree.Expr.TheVariants as e
 use Rattle.hy_core.specs.declared.tree.Module.{Module}
 use Rattle.core_reader.specs.declared.state.Part.{Part}
 use Rattle.core_reader.specs.declared.state.Part.TheVariants as part
 use Rattle.core_reader.specs.declared.state.Closer.{Closer}
 use Rattle.core_reader.specs.declared.state.Closer.TheVariants as closer
-use Rattle.core_reader.specs.declared.state.Form.{Form}
 use Rattle.core_reader.specs.declared.state.Form.TheVariants as f
 use Rattle.core_reader.specs.declared.state.Goal.{Goal}
 use Rattle.core_reader.specs.declared.state.Goal.TheVariants as g

@@ -1,5 +1,5 @@
 -- What the parts of the machine answer.
-use Rattle.std.specs.Prelude.{◌≡◌, List, [], ◌∷◌, Option, Some, None, Result, Ok, Err}
+use Rattle.std.specs.Prelude.{◌≡◌, List, Option, Some, None, Result, Ok, Err}
 use Rattle.hy_core.specs.declared.refusal.RefusalKind.TheVariants.{Unexpected}
 use Rattle.core_reader.specs.declared.answer.StepFault.{StepFault}
 use Rattle.core_reader.specs.declared.answer.StepFault.TheVariants as steps

@@ -1,5 +1,5 @@
 -- The value on top of others, where it is of the kind that is wanted.
-use Rattle.std.specs.Prelude.{ℕ, Bool, true, false, List, [], ◌∷◌, Option, Some, None}
+use Rattle.std.specs.Prelude.{ℕ, Bool, true, false, List, ◌∷◌, Option, Some, None}
 use Rattle.hy_core.specs.declared.tree.Expr.{Expr}
 use Rattle.hy_core.specs.declared.tree.Pattern.{Pattern}
 use Rattle.hy_core.specs.declared.tree.Clause.{Clause}

@@ -51,11 +51,7 @@ pub fn take_function_arity(token: &Token, state: &mut State) -> Result<(), StepF
 
 /// The arity of a definition of `'module_info'`, which is dropped where it is 0 or 1: its names then go
 /// into tables of their own.
-pub fn take_info_arity(
-    alloc: Global,
-    token: &Token,
-    state: &mut State,
-) -> Result<(), StepFault>
+pub fn take_info_arity(alloc: Global, token: &Token, state: &mut State) -> Result<(), StepFault>
     ensures { GivesState result state.new (checked (arity_mark token.now) (info_arity_moved state.old.goals state.old.values state.old.tables token.now)) }
 {
     match token {

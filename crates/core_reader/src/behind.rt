@@ -53,9 +53,7 @@ fn alias_of(level: u32, pattern: Pattern, state: &mut State) -> Result<(), StepF
         Pattern::Var(var) => {
             let inner = deeper(level)?;
             state.values.push(Value::Variable(var))?;
-            state
-                .goals
-                .push_all(&[Goal::Part(Part::Pattern, inner), Goal::Build(Form::Alias)])?;
+            state.goals.push_all(&[Goal::Part(Part::Pattern, inner), Goal::Build(Form::Alias)])?;
             Ok(())
         }
         other => {

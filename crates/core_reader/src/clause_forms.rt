@@ -4,8 +4,8 @@ ghost use Rattle.core_reader.specs.Steps.{GivesWhere};
 
 use crate::answer::StepFault;
 use crate::pop::{
-    pop_clauses, pop_expr, pop_functions, pop_head, pop_name, pop_pattern, pop_patterns, pop_variable,
-    pop_variables,
+    pop_clauses, pop_expr, pop_functions, pop_head, pop_name, pop_pattern, pop_patterns,
+    pop_variable, pop_variables,
 };
 use crate::stack::Stack;
 use crate::state::{Head, Value};

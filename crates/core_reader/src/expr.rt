@@ -36,8 +36,9 @@ pub fn begin_expr(
     match token {
         Token::Integer(sign, digits) => {
             inside(level)?;
-            let n = integer(*sign, digits.as_slice())
-                .ok_or(StepFault::Refused(RefusalKind::NumberRange))?;
+            let n = integer(*sign, digits.as_slice()).ok_or(StepFault::Refused(
+                RefusalKind::NumberRange,
+            ))?;
             state.values.push(Value::Expr(Expr::Int(n)))?;
         }
         Token::Character(code) => {
@@ -52,7 +53,9 @@ pub fn begin_expr(
         }
         Token::Str(text) => {
             inside(level)?;
-            state.values.push(Value::Expr(string(alloc, text.as_slice())?))?;
+            state
+                .values
+                .push(Value::Expr(string(alloc, text.as_slice())?))?;
         }
         Token::Variable(name) => {
             inside(level)?;
@@ -65,12 +68,7 @@ pub fn begin_expr(
 }
 
 /// The keyword or mark that begins an expression of this level.
-fn open_expr(
-    alloc: Global,
-    level: u32,
-    word: Word,
-    state: &mut State,
-) -> Result<(), StepFault>
+fn open_expr(alloc: Global, level: u32, word: Word, state: &mut State) -> Result<(), StepFault>
     ensures { GivesState result state.new (checked (at level (WordToken word)) (expr_opened level state.old.goals state.old.values state.old.tables word)) }
 {
     match word {
@@ -189,10 +187,9 @@ fn open_expr(
         }
         Word::Catch => {
             let inner = inside(level)?;
-            state.goals.push_all(&[
-                Goal::Part(Part::Expr, inner),
-                Goal::Build(Form::Catch),
-            ])?;
+            state
+                .goals
+                .push_all(&[Goal::Part(Part::Expr, inner), Goal::Build(Form::Catch)])?;
         }
         Word::Fun => {
             let inner = inside(level)?;
@@ -206,10 +203,9 @@ fn open_expr(
         }
         Word::Open => {
             let inner = inside(level)?;
-            state.goals.push_all(&[
-                Goal::Part(Part::Expr, inner),
-                Goal::Note(level),
-            ])?;
+            state
+                .goals
+                .push_all(&[Goal::Part(Part::Expr, inner), Goal::Note(level)])?;
         }
         _ => return Err(StepFault::Refused(RefusalKind::Unexpected)),
     }

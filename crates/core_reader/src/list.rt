@@ -88,9 +88,10 @@ pub fn take_more_parts(
     }
     if has_word(token, Word::Comma) {
         add_part(part, &mut state.values)?;
-        state
-            .goals
-            .push_all(&[Goal::Part(part, level), Goal::MoreParts(part, level, closer)])?;
+        state.goals.push_all(&[
+            Goal::Part(part, level),
+            Goal::MoreParts(part, level, closer),
+        ])?;
         return Ok(());
     }
     Err(UNEXPECTED)
@@ -176,8 +177,6 @@ pub fn take_tail(
         return Ok(());
     }
     let inner = deeper(level)?;
-    state
-        .goals
-        .push_all(&[Goal::Word(Word::CloseList), Goal::Build(Form::Join(part))])?;
+    state.goals.push_all(&[Goal::Word(Word::CloseList), Goal::Build(Form::Join(part))])?;
     take_part(alloc, part, inner, token, state)
 }

@@ -85,11 +85,7 @@ pub fn begin_primop(level: u32, token: &Token, state: &mut State) -> Result<(), 
 }
 
 /// The first token of the name of a `letrec` function.
-pub fn begin_function_name(
-    level: u32,
-    token: &Token,
-    state: &mut State,
-) -> Result<(), StepFault>
+pub fn begin_function_name(level: u32, token: &Token, state: &mut State) -> Result<(), StepFault>
     ensures { GivesState result state.new (checked (annotation_mark level token.now) (function_begun level state.old.goals state.old.values state.old.tables token.now)) }
 {
     match token {
@@ -114,11 +110,7 @@ pub fn begin_function_name(
 
 /// The first token of the name of a definition in a module. The number of `'module_info'` is put off
 /// until its arity tells whether it is kept.
-pub fn begin_definition_name(
-    level: u32,
-    token: &Token,
-    state: &mut State,
-) -> Result<(), StepFault>
+pub fn begin_definition_name(level: u32, token: &Token, state: &mut State) -> Result<(), StepFault>
     ensures { GivesState result state.new (checked (annotation_mark level token.now) (definition_begun level state.old.goals state.old.values state.old.tables token.now)) }
 {
     match token {

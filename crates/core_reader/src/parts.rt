@@ -5,7 +5,9 @@ ghost use Rattle.core_reader.specs.Steps.{GivesWhere};
 
 use crate::answer::{StepFault, UNEXPECTED};
 use crate::join::{list_of, pattern_list_of};
-use crate::pop::{pop_atom, pop_expr, pop_exprs, pop_pattern, pop_patterns, pop_variable, pop_variables};
+use crate::pop::{
+    pop_atom, pop_expr, pop_exprs, pop_pattern, pop_patterns, pop_variable, pop_variables,
+};
 use crate::stack::Stack;
 use crate::state::{Part, Value};
 use hy_core::{Expr, Pattern};

@@ -36,8 +36,9 @@ pub fn begin_pattern(
     match token {
         Token::Integer(sign, digits) => {
             inside(level)?;
-            let n = integer(*sign, digits.as_slice())
-                .ok_or(StepFault::Refused(RefusalKind::NumberRange))?;
+            let n = integer(*sign, digits.as_slice()).ok_or(StepFault::Refused(
+                RefusalKind::NumberRange,
+            ))?;
             state.values.push(Value::Pattern(Pattern::Int(n)))?;
         }
         Token::Character(code) => {
@@ -69,12 +70,7 @@ pub fn begin_pattern(
 }
 
 /// The mark that begins a pattern of this level.
-fn open_pattern(
-    alloc: Global,
-    level: u32,
-    word: Word,
-    state: &mut State,
-) -> Result<(), StepFault>
+fn open_pattern(alloc: Global, level: u32, word: Word, state: &mut State) -> Result<(), StepFault>
     ensures { GivesState result state.new (checked (at level (WordToken word)) (pattern_opened level state.old.goals state.old.values state.old.tables word)) }
 {
     match word {

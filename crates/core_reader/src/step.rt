@@ -5,7 +5,9 @@ ghost use Rattle.core_reader.specs.Answers.{GivesState};
 ghost use Rattle.core_reader.specs.declared.state.Goal.TheVariants as g;
 
 use crate::answer::{StepFault, UNEXPECTED};
-use crate::arity::{take_arity, take_export_arity, take_function_arity, take_info_arity, take_info_export};
+use crate::arity::{
+    take_arity, take_export_arity, take_function_arity, take_info_arity, take_info_export,
+};
 use crate::behind::{take_alias, take_clause_note, take_clause_rest, take_name, take_note, want};
 use crate::constant::begin_value;
 use crate::list::{take_heads, take_more_heads, take_more_parts, take_part, take_parts, take_tail};
@@ -18,12 +20,7 @@ use hy_core::Token;
 use std::alloc::Global;
 
 /// The goal that was on top takes the token.
-pub fn take(
-    alloc: Global,
-    goal: Goal,
-    token: &Token,
-    state: &mut State,
-) -> Result<(), StepFault>
+pub fn take(alloc: Global, goal: Goal, token: &Token, state: &mut State) -> Result<(), StepFault>
     ensures { GivesState result state.new (checked (mark goal token.now) (goal_moved goal state.old.goals state.old.values state.old.tables token.now)) }
 {
     match goal {

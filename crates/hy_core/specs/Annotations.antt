@@ -1,6 +1,6 @@
 -- Constants, annotations and names: the parts of the grammar of the Core Erlang 1.0.3 report that stand by themselves.
 -- Each relation says which marked tokens are read, and which are left. Levels and the dropping of annotations are this project's own.
-use Rattle.std.specs.Prelude.{◌≡◌, ℕ, ◌+◌, List, [], ◌∷◌}
+use Rattle.std.specs.Prelude.{◌≡◌, ℕ, ◌+◌, List, ◌∷◌}
 use Rattle.hy_core.specs.Marks.{Marked, at, constant, plain, word, arity}
 use Rattle.hy_core.specs.declared.token.Word.{Word}
 use Rattle.hy_core.specs.declared.token.Word.TheVariants as w

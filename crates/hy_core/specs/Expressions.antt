@@ -1,7 +1,7 @@
 -- Expressions, clauses and local functions of the Core Erlang 1.0.3 report, with their trees.
 -- Each relation says which marked tokens are read, and which are left, between the tables before and after them. Levels are this project's own.
 use Rattle.std.specs.Prelude.{◌≡◌, ℕ, ◌+◌, pos, List, [], ◌∷◌, ◌++◌}
-use Rattle.hy_core.specs.Marks.{Marked, at, plain, word, arity, value, number}
+use Rattle.hy_core.specs.Marks.{Marked, at, word, arity, value, number}
 use Rattle.hy_core.specs.Numbering.{atom_number, with_atom, variable_number, with_variable}
 use Rattle.hy_core.specs.Annotations.{IsNote, IsAtom, IsName}
 use Rattle.hy_core.specs.Patterns.{AreVariables, BindsValues, IsNotBefore, IsPattern, ArePatterns}

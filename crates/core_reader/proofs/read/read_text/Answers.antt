@@ -1,4 +1,4 @@
-use Rattle.std.proofs.Common.{◌<◌, ◌≤◌, ◌^◌, List, length, subst, arith}
+use Rattle.std.proofs.Common.{◌≤◌, ◌^◌, List, length, subst, arith}
 use Rattle.hy_core.specs.declared.token.Lexeme.{Lexeme}
 use Rattle.core_reader.specs.Answers.{of_tokens, GivesTokens}
 use Rattle.core_reader.proofs.read.read_text.Goals as goal
