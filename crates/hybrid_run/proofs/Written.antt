@@ -1,7 +1,7 @@
 -- Bytes written one piece after the other.
-use Rattle.std.proofs.Common.{◌≡◌, ◌⊎◌, ℕ, ◌+◌, ◌<◌, ◌≤◌, List, [], ◌∷◌, ◌++◌, map, take, length, get_or, Option, None, Some, refl, sym, ap, subst, ◌∙◌, append_assoc, inl, inr, arith}
+use Rattle.std.proofs.Common.{◌≡◌, ℕ, ◌+◌, ◌<◌, ◌≤◌, List, [], ◌∷◌, ◌++◌, map, take, length, get_or, Option, None, Some, refl, sym, ap, subst, ◌∙◌, append_assoc, inl, inr, arith}
 use Rattle.std.proofs.lemmas.List.{append-nil, take_more, map-append, take-append-drop}
-use Rattle.std.specs.Prelude.{IfSome, drop}
+use Rattle.std.specs.Prelude.{drop}
 use Rattle.hy_core.specs.Alone.{lines_of}
 use Rattle.hybrid_run.specs.Arithmetic.{value_text, printed_lines}
 use Rattle.outside.specs.Outside.{Appends, AppendsPrefix, Rises}

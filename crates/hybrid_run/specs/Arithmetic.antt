@@ -7,7 +7,7 @@ use Rattle.hy_core.specs.Alone.{lines_of}
 use Rattle.hy_core.specs.Built.{IsBuilt}
 use Rattle.hy_core.specs.BuiltIn.{own_atoms, truth}
 use Rattle.hy_core.specs.Computation.{Input, Outcome, Values, Raised}
-use Rattle.hy_core.specs.Evaluation.{Evaluated, Wait}
+use Rattle.hy_core.specs.Evaluation.{Wait}
 use Rattle.hy_core.specs.Event.{Event, Printed}
 use Rattle.hy_core.specs.Match.{Env, Empty, Bound}
 use Rattle.hy_core.specs.Meaning.{meaning}

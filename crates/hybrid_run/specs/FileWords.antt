@@ -1,5 +1,5 @@
 -- The words of the command line. This project's own.
-use Rattle.std.specs.Prelude.{ℕ, ◌==◌, Bool, true, false, not, if◌then◌else◌, List, [], ◌∷◌}
+use Rattle.std.specs.Prelude.{ℕ, ◌==◌, Bool, true, not, if◌then◌else◌, List, [], ◌∷◌}
 
 -- a word that doesn't begin with `-`, or is `-` alone
 abbrev pub is_file_word : List ℕ → Bool

@@ -1,10 +1,10 @@
-use Rattle.std.proofs.Common.{rules, ◌≡◌, List, ℕ, ◌∷◌, [], refl, sym, ap, subst, ◌∙◌, arith, length, w64, SFits}
+use Rattle.std.proofs.Common.{rules, ◌≡◌, ◌∷◌, [], refl, sym, subst, arith, length, w64, SFits}
 use Rattle.std.proofs.lemmas.Int.{to_z-of_z}
 use Rattle.hy_core.specs.Built.{IsBuilt}
 use Rattle.hy_core.specs.declared.tree.Expr.{Expr}
 use Rattle.hybrid_run.specs.Arithmetic.{variables_of}
 use Rattle.hybrid_run.specs.declared.value.Ending.TheVariants.{Gives, Raises}
-use Rattle.hybrid_run.proofs.Evaluating.{int_evaluates, variable_evaluates, let_gives, let_raises, do_gives, do_raises, display_gives, display_raises, sum_gives, sum_left_raises, sum_right_raises, call_evaluates, module_of, moved, moved_under, moved_call, if_ok, one_item, two_items, shown_call, under_built}
+use Rattle.hybrid_run.proofs.Evaluating.{int_evaluates, variable_evaluates, let_gives, let_raises, do_gives, do_raises, display_raises, sum_gives, sum_left_raises, sum_right_raises, call_evaluates, module_of, moved, moved_under, moved_call, if_ok, one_item, two_items, shown_call, under_built}
 use Rattle.hybrid_run.proofs.evaluate.+evaluate.Goals as goal
 
 pub evaluate-returns-in-Int-clause-evaluates : goal.evaluate-returns-in-Int-clause-evaluates

@@ -1,4 +1,4 @@
-use Rattle.std.proofs.Common.{◌≡◌, List, ℕ, [], refl, sym, ap, subst, ◌∙◌, get_or}
+use Rattle.std.proofs.Common.{◌≡◌, List, ℕ, sym, ap, subst, ◌∙◌, get_or}
 use Rattle.hy_core.specs.Built.{IsBuilt}
 use Rattle.hybrid_run.specs.Arithmetic.{variables_of}
 use Rattle.hybrid_run.proofs.Running.{body_built, module_runs, from_nothing}

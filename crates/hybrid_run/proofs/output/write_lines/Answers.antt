@@ -1,4 +1,4 @@
-use Rattle.std.proofs.Common.{ℕ, ◌∙◌, arith, ◌≤◌}
+use Rattle.std.proofs.Common.{◌∙◌, arith}
 use Rattle.hybrid_run.proofs.Written.{line_written, line_cut}
 use Rattle.hybrid_run.proofs.output.write_lines.Goals as goal
 
