@@ -5,7 +5,7 @@ ghost use Rattle.core_reader.specs.Steps.{GivesWhere};
 ghost use Rattle.core_reader.specs.Answers.{GivesState};
 
 use crate::answer::{StepFault, UNEXPECTED};
-use crate::names::number_of;
+use crate::interning::number_of;
 use crate::number::arity;
 use crate::pop::{pop_atom, pop_names};
 use crate::stack::Stack;

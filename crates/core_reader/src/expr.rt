@@ -7,7 +7,7 @@ ghost use Rattle.hy_core.specs.declared.token.Token.TheVariants.{Word as WordTok
 
 use crate::answer::StepFault;
 use crate::level::inside;
-use crate::names::number_of;
+use crate::interning::number_of;
 use crate::number::integer;
 use crate::state::{Closer, Form, Goal, Part, State, Value};
 use hy_core::{Expr, RefusalKind, Text, Token, Word};

@@ -4,7 +4,7 @@ ghost use Rattle.core_reader.specs.Answers.{GivesState};
 
 use crate::answer::StepFault;
 use crate::level::inside;
-use crate::names::number_of;
+use crate::interning::number_of;
 use crate::state::{Goal, Part, State, Value};
 use hy_core::{RefusalKind, Token, Word};
 

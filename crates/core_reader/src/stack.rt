@@ -29,13 +29,6 @@ impl<T> Stack<T> {
         }
     }
 
-    /// The items, the top last.
-    pub fn as_slice(&self) -> &[T]
-        ensures { result.now ≡ reverse self.now }
-    {
-        self.items.as_slice()
-    }
-
     pub fn pop(&mut self) -> Option<T>
         ensures { MatchOption result ((self.old ≡ []) × (self.new ≡ [])) (λ top. self.old ≡ top ∷ self.new) }
     {
@@ -64,14 +57,5 @@ impl<T: Copy> Stack<T> {
             self.items.push(items[left])?;
         }
         Ok(())
-    }
-
-    /// The stack of these items, the top last.
-    pub fn from_slice(alloc: Global, items: &[T]) -> Result<Stack<T>, AllocError>
-        ensures { IfOk result (λ stack. stack ≡ reverse items.now) }
-    {
-        Ok(Stack {
-            items: Vec::from_slice(alloc, items)?,
-        })
     }
 }
