@@ -15,3 +15,4 @@ pub mod Living
 pub mod Exact
 pub mod Refusing
 pub mod WholeText
+pub mod Worked

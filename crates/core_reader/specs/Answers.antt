@@ -1,6 +1,8 @@
 -- What the reader answers.
 use Rattle.std.specs.Prelude.{◌≡◌, ℕ, ◌-◌, ◌≤◌, ◌<◌, ◌^◌, List, [], ◌∷◌, length, slice_get, Option, Some, None, Result, Ok, Err}
 use Rattle.hy_core.specs.Tokens.{Lexes, AreWithin, EndsWithin}
+use Rattle.hy_core.specs.Bytes.{class_of}
+use Rattle.hy_core.specs.declared.token.ByteClass.TheVariants.{Space}
 use Rattle.hy_core.specs.Reading.{tokens_in}
 use Rattle.hy_core.specs.declared.token.Lexeme.{Lexeme}
 use Rattle.hy_core.specs.declared.token.Ending.{Ending}
@@ -18,6 +20,9 @@ use Rattle.core_reader.specs.declared.answer.TokenAnswer.{TokenAnswer}
 use Rattle.core_reader.specs.declared.answer.TokenAnswer.TheVariants as tokens
 use Rattle.core_reader.specs.declared.answer.ReadAnswer.{ReadAnswer}
 use Rattle.core_reader.specs.declared.answer.ReadAnswer.TheVariants.{Refused, Memory}
+
+abbrev pub IsSpace : ℕ → Type 0
+IsSpace b = class_of b ≡ Space
 
 -- a tree, or the kind of a refusal and its place
 abbrev pub Verdict : Type 0

@@ -28,4 +28,4 @@ mod state;
 mod step;
 
 pub use answer::{ReadAnswer, Refused};
-pub use read::{one_tree, read_module};
+pub use read::{one_tree, read_module, spaces_are_no_module};

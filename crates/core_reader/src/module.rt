@@ -4,9 +4,9 @@ ghost use Rattle.core_reader.specs.Machine.{checked, body_begun, module_begun, n
 ghost use Rattle.core_reader.specs.Answers.{GivesState};
 
 use crate::answer::StepFault;
+use crate::interning::number_of;
 use crate::level::inside;
 use crate::named::begin_variable;
-use crate::interning::number_of;
 use crate::state::{Closer, Form, Goal, Part, State, Value};
 use hy_core::{RefusalKind, Token, Word};
 

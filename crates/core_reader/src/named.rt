@@ -3,8 +3,8 @@ ghost use Rattle.core_reader.specs.Machine.{checked, is_info, variable_begun, ke
 ghost use Rattle.core_reader.specs.Answers.{GivesState};
 
 use crate::answer::StepFault;
-use crate::level::inside;
 use crate::interning::number_of;
+use crate::level::inside;
 use crate::state::{Goal, Part, State, Value};
 use hy_core::{RefusalKind, Token, Word};
 

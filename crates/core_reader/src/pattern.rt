@@ -6,8 +6,8 @@ ghost use Rattle.core_reader.specs.Answers.{GivesState};
 ghost use Rattle.hy_core.specs.declared.token.Token.TheVariants.{Word as WordToken};
 
 use crate::answer::StepFault;
-use crate::level::inside;
 use crate::interning::number_of;
+use crate::level::inside;
 use crate::number::integer;
 use crate::state::{Closer, Form, Goal, Part, State, Value};
 use hy_core::{Pattern, RefusalKind, Text, Token, Word};

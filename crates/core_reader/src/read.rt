@@ -6,6 +6,8 @@ ghost use Rattle.hy_core.specs.declared.refusal.RefusalKind.{RefusalKind};
 ghost use Rattle.hy_core.specs.declared.refusal.RefusalKind.TheVariants as kinds;
 ghost use Rattle.hy_core.specs.declared.tree.Module.{Module};
 ghost use Rattle.core_reader.specs.Machine.{run, start};
+ghost use Rattle.std.specs.List.{AllByRecursion};
+ghost use Rattle.core_reader.specs.Answers.{IsSpace};
 ghost use Rattle.core_reader.specs.Answers.{Gives, IfRefused, GivesText, GivesTokens, behind, place_of, refused_as, verdict};
 
 use crate::answer::{ReadAnswer, Refused, RefusedToken, TokenAnswer};
@@ -39,6 +41,11 @@ pub fn read_module(alloc: Global, bytes: &[u8]) -> Result<Module, ReadAnswer>
 /// No text has two trees.
 pub fn one_tree()
     ensures { (bytes : List ℕ) (y z : Module) → IsModuleText bytes y → IsModuleText bytes z → y ≡ z }
+{}
+
+/// A text of spaces alone, an empty one too, ends where a module is to begin.
+pub fn spaces_are_no_module()
+    ensures { (bytes : List ℕ) → AllByRecursion IsSpace bytes → length bytes ≤ 2 ^ 20 → IsRefusedText bytes kinds.Ended (length bytes) }
 {}
 
 fn refused(kind: RefusalKind, place: usize) -> Result<Module, ReadAnswer>
