@@ -92,6 +92,12 @@ fn refused_texts(rt: HostRuntime) -> Result<(), Fail> {
         ("module 'm' [] attributes [] end '", "", Ended),
         ("( module 'm' [] attributes [] end ", ")", Unexpected),
         ("( module 'm' [] attributes [] end -| []", "", Ended),
+        ("module 'm' ['module_info'/", "65536] end", NumberRange),
+        (
+            "module 'm' [] attributes [] 'module_info'/0 = fun () -> ",
+            "576460752303423488 end",
+            NumberRange,
+        ),
     ] {
         assert_refused(&rt, rt.alloc(), good, rest, kind)?;
     }
@@ -990,6 +996,28 @@ fn levels_in_bodies(rt: HostRuntime) -> Result<(), Fail> {
             after,
             (most, offset),
         )?;
+    }
+    Ok(())
+}
+
+#[test]
+fn refused_at_the_deepest(rt: HostRuntime) -> Result<(), Fail> {
+    for (front, good, rest, kind) in [
+        ("{", "", "576460752303423488", TooDeep),
+        ("{", "", "when", Unexpected),
+        ("{", "", "#", BadToken),
+        ("{", "", "{ #", TooDeep),
+        ("{", "", "", Ended),
+        ("{", "'a", "", Ended),
+        ("{", "}", "1", Unexpected),
+        ("do ", "", "1", TooDeep),
+        ("do ", "", "end", Unexpected),
+        ("do ", "", "", Ended),
+        ("do ", "\"1", "", Ended),
+    ] {
+        let fronts = nested(rt.alloc(), 400, front, "", "")?;
+        let good = format!(in rt.alloc(); "{HEAD}{fronts}{good}")?;
+        assert_refused(&rt, rt.alloc(), good.as_str(), rest, kind)?;
     }
     Ok(())
 }
