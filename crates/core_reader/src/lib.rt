@@ -20,6 +20,8 @@ mod parts;
 mod pattern;
 mod pop;
 mod read;
+#[cfg(test)]
+mod read_tests;
 mod run;
 mod settle;
 mod several;
