@@ -32,7 +32,8 @@ pub fn push_expr(out: &mut Vec<u8>, names: &Module, expr: &Expr) -> Result<(), M
             heads,
             tail,
         } => {
-            push_between(out, names, b" [", heads.as_slice(), b"")?;
+            put(out, b" [")?;
+            push_exprs(out, names, heads.as_slice())?;
             push_list_end(out, names, tail.get())
         }
         Expr::Values(parts) => push_between(out, names, b" <", parts.as_slice(), b" >"),
