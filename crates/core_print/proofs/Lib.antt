@@ -1,1 +1,2 @@
 pub mod ListEnd
+pub mod Spelling

@@ -1,6 +1,6 @@
 -- A list notation whose tail is nil has no bar.
 use Rattle.std.proofs.Common.{◌≡◌, true, false, ◌++◌, codes, refl}
-use Rattle.core_print.specs.Canonical.{Part, list_end}
+use Rattle.hy_core.specs.Canonical.{Part, list_end}
 
 pub list_end-nil : (tail : Part) → tail.is_nil ≡ true → list_end tail ≡ codes " ]"
 list_end-nil tail nil = rw nil refl

@@ -1,6 +1,6 @@
 ghost use Rattle.std.specs.Prelude.{◌≡◌, ◌++◌, codes, map, OnOk};
 ghost use Rattle.hy_core.specs.declared.tree.Module.{Module};
-ghost use Rattle.core_print.specs.Canonical.{expr_part, expr_text, clause_text, function_text, texts_of, with_commas, one_after_another, list_end, arm_text, fun_text};
+ghost use Rattle.hy_core.specs.Canonical.{expr_part, expr_text, clause_text, function_text, texts_of, with_commas, one_after_another, list_end, arm_text, fun_text};
 
 use crate::names::{push_binding, push_variables};
 use crate::pattern::push_patterns;

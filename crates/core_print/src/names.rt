@@ -1,5 +1,5 @@
 ghost use Rattle.std.specs.Prelude.{◌≡◌, ◌++◌, map, OnOk};
-ghost use Rattle.core_print.specs.Canonical.{variables_text, binding_text, name_text, with_commas};
+ghost use Rattle.hy_core.specs.Canonical.{variables_text, binding_text, name_text, with_commas};
 
 use crate::token::{push_name, push_variable, put};
 use hy_core::{FunName, Module};

@@ -1,6 +1,6 @@
 ghost use Rattle.std.specs.Prelude.{◌≡◌, ◌++◌, codes, map, OnOk};
 ghost use Rattle.hy_core.specs.declared.tree.Module.{Module};
-ghost use Rattle.core_print.specs.Canonical.{pattern_part, pattern_text, texts_of, with_commas, list_end};
+ghost use Rattle.hy_core.specs.Canonical.{pattern_part, pattern_text, texts_of, with_commas, list_end};
 
 use crate::token::{push_atom_token, push_integer, push_string, push_variable, put};
 use hy_core::{Module, Pattern};

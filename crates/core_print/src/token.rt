@@ -1,7 +1,7 @@
 ghost use Rattle.std.specs.Prelude.{◌≡◌, ◌++◌, map, pos, OnOk};
 ghost use Rattle.hy_terms.specs.Naming.{text_of};
 ghost use Rattle.hy_terms.specs.Texts.{int_text, atom_text, quoted};
-ghost use Rattle.core_print.specs.Canonical.{token, variable_text, atom_token, name_text};
+ghost use Rattle.hy_core.specs.Canonical.{token, variable_text, atom_token, name_text};
 
 use hy_core::{FunName, Module};
 use hy_terms::{Atoms, Memory, push_atom, push_int, push_quoted};

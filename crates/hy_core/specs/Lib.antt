@@ -5,6 +5,7 @@ pub mod BuiltIn
 pub mod BuiltInTable
 pub mod Built
 pub mod Bytes
+pub mod Canonical
 pub mod Computation
 pub mod Evaluation
 pub mod Evaluated
@@ -20,11 +21,13 @@ pub mod Meaning
 pub mod Numbering
 pub mod Output
 pub mod Patterns
+pub mod PreludeModules
 pub mod Reading
 pub mod Refusals
 pub mod Resolve
 pub mod ResolvedExample
 pub mod Resolved
+pub mod Sites
 pub mod Source
 pub mod Tokens
 pub mod Worked

@@ -15,6 +15,10 @@ tokens_in ls = map (λ l. l.token) ls
 abbrev pub Reads : List Token → Module → Type 0
 Reads ts z = (ms : List Marked) × (tokens_of ms ≡ ts) × AreSound ms × IsModule ms z
 
+-- the grammar gives the text this tree, however long it is
+abbrev pub HasTree : List ℕ → Module → Type 0
+HasTree bytes z = (ls : List Lexeme) × Lexes bytes ls Clean × Reads (tokens_in ls) z
+
 -- the text is a module of this tree: at most 2^20 bytes, whose tokens are one
 abbrev pub IsModuleText : List ℕ → Module → Type 0
-IsModuleText bytes z = (length bytes ≤ 2 ^ 20) × (ls : List Lexeme) × Lexes bytes ls Clean × Reads (tokens_in ls) z
+IsModuleText bytes z = (length bytes ≤ 2 ^ 20) × HasTree bytes z

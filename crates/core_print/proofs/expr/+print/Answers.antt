@@ -1,5 +1,5 @@
 use Rattle.std.proofs.Common.{◌∙◌}
-use Rattle.core_print.specs.Canonical.{expr_part}
+use Rattle.hy_core.specs.Canonical.{expr_part}
 use Rattle.core_print.proofs.ListEnd.{list_end-nil, list_end-other}
 use Rattle.core_print.proofs.expr.+print.Goals as goal
 

@@ -1,5 +1,5 @@
 use Rattle.std.proofs.Common.{◌≡◌, ◌++◌, drop, map}
-use Rattle.core_print.specs.Canonical.{expr_part, clause_text, function_text, texts_of, with_commas, after_commas, one_after_another}
+use Rattle.hy_core.specs.Canonical.{expr_part, clause_text, function_text, texts_of, with_commas, after_commas, one_after_another}
 use Rattle.core_print.proofs.expr.+print.Given as goal
 
 abbrev pub invariant-push_exprs-loop-expr : goal.invariant-push_exprs-loop-expr

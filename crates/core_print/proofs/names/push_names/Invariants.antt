@@ -1,5 +1,5 @@
 use Rattle.std.proofs.Common.{◌≡◌, ◌++◌, drop, map}
-use Rattle.core_print.specs.Canonical.{name_text, with_commas, after_commas}
+use Rattle.hy_core.specs.Canonical.{name_text, with_commas, after_commas}
 use Rattle.core_print.proofs.names.push_names.Given as goal
 
 abbrev pub invariant-loop-function : goal.invariant-loop-function

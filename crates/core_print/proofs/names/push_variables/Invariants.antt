@@ -1,5 +1,5 @@
 use Rattle.std.proofs.Common.{◌≡◌, ◌++◌, drop, map}
-use Rattle.core_print.specs.Canonical.{variable_text, variables_text, after_commas}
+use Rattle.hy_core.specs.Canonical.{variable_text, variables_text, after_commas}
 use Rattle.core_print.proofs.names.push_variables.Given as goal
 
 abbrev pub invariant-loop-variable : goal.invariant-loop-variable

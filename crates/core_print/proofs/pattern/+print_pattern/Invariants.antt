@@ -1,5 +1,5 @@
 use Rattle.std.proofs.Common.{◌≡◌, ◌++◌, drop, map}
-use Rattle.core_print.specs.Canonical.{pattern_part, texts_of, with_commas, after_commas}
+use Rattle.hy_core.specs.Canonical.{pattern_part, texts_of, with_commas, after_commas}
 use Rattle.core_print.proofs.pattern.+print_pattern.Given as goal
 
 abbrev pub invariant-push_patterns-loop-pattern : goal.invariant-push_patterns-loop-pattern

@@ -1,0 +1,95 @@
+-- The tokens that a canonical text is made of, each with its text.
+use Rattle.std.specs.Prelude.{◌≡◌, ℕ, ◌≤◌, List, [], ◌∷◌, ◌++◌, codes}
+use Rattle.std.specs.List.{AllByRecursion}
+use Rattle.std.specs.Fmt.{decimal}
+use Rattle.hy_terms.specs.Texts.{atom_text, quoted}
+use Rattle.hy_core.specs.Bytes.{class_of, is_digit, is_variable_part, Pass}
+use Rattle.hy_core.specs.Marks.{Marked, IsSound}
+use Rattle.hy_core.specs.declared.token.ByteClass.TheVariants as c
+use Rattle.hy_core.specs.declared.token.Word.{Word}
+use Rattle.hy_core.specs.declared.token.Word.TheVariants as w
+use Rattle.hy_core.specs.declared.token.Sign.{Sign}
+use Rattle.hy_core.specs.declared.token.Sign.TheVariants as g
+use Rattle.hy_core.specs.declared.token.Token.{Token}
+use Rattle.hy_core.specs.declared.token.Token.TheVariants as t
+
+abbrev pub word_text : Word → List ℕ
+word_text w.After = codes "after"
+word_text w.Apply = codes "apply"
+word_text w.Attributes = codes "attributes"
+word_text w.Call = codes "call"
+word_text w.Case = codes "case"
+word_text w.Catch = codes "catch"
+word_text w.Do = codes "do"
+word_text w.End = codes "end"
+word_text w.Fun = codes "fun"
+word_text w.In = codes "in"
+word_text w.Let = codes "let"
+word_text w.Letrec = codes "letrec"
+word_text w.Module = codes "module"
+word_text w.Of = codes "of"
+word_text w.Primop = codes "primop"
+word_text w.Receive = codes "receive"
+word_text w.Try = codes "try"
+word_text w.When = codes "when"
+word_text w.Open = codes "("
+word_text w.Close = codes ")"
+word_text w.OpenTuple = codes "{"
+word_text w.CloseTuple = codes "}"
+word_text w.OpenList = codes "["
+word_text w.CloseList = codes "]"
+word_text w.Less = codes "<"
+word_text w.Greater = codes ">"
+word_text w.Comma = codes ","
+word_text w.Colon = codes ":"
+word_text w.Slash = codes "/"
+word_text w.Equals = codes "="
+word_text w.Bar = codes "|"
+word_text w.Arrow = codes "->"
+word_text w.NoteBar = codes "-|"
+
+abbrev pub sign_text : Sign → List ℕ
+sign_text g.Absent = []
+sign_text g.Plus = codes "+"
+sign_text g.Minus = codes "-"
+
+-- the text of a token, as a canonical text has it
+abbrev pub token_text : Token → List ℕ
+token_text (t.Integer sign digits) = sign_text sign ++ digits
+token_text (t.Character code) = decimal code
+token_text (t.Atom text) = atom_text text
+token_text (t.Str text) = quoted 34 text
+token_text (t.Variable name) = name
+token_text (t.Word word) = word_text word
+
+-- tokens, each with the space before it
+abbrev pub spaced : List Marked → List ℕ
+spaced [] = []
+spaced (m ∷ ms) = 32 ∷ (token_text m.token ++ spaced ms)
+
+-- digits, one at least
+pub data AreDigits : List ℕ → Type 0 where
+  digits : {d : ℕ} {ds : List ℕ} → class_of d ≡ c.Digit → Pass is_digit ds → AreDigits (d ∷ ds)
+
+-- the name of a variable
+pub data IsVariableName : List ℕ → Type 0 where
+  variable_name : {u : ℕ} {us : List ℕ} → class_of u ≡ c.Capital → Pass is_variable_part us → IsVariableName (u ∷ us)
+
+abbrev pub AreBytes : List ℕ → Type 0
+AreBytes text = AllByRecursion (λ b. b ≤ 255) text
+
+-- a token that a text can have
+abbrev pub IsWritten : Token → Type 0
+IsWritten (t.Integer sign digits) = AreDigits digits
+IsWritten (t.Character code) = code ≤ 255
+IsWritten (t.Atom text) = AreBytes text
+IsWritten (t.Str text) = AreBytes text
+IsWritten (t.Variable name) = IsVariableName name
+IsWritten (t.Word word) = Unit {0}
+
+-- a token that a text can have, within the levels and its range
+abbrev pub IsFine : Marked → Type 0
+IsFine m = IsSound m × IsWritten m.token
+
+abbrev pub AreFine : List Marked → Type 0
+AreFine ms = AllByRecursion IsFine ms
