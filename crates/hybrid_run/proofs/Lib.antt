@@ -1,9 +1,7 @@
 pub mod Bindings
 pub mod Evaluating
-pub mod Finishing
 pub mod Lists
 pub mod Modules
 pub mod Parts
-pub mod Reading
 pub mod Running
 pub mod Written

@@ -1,5 +1,5 @@
 -- The lines for faults. This project's own.
-use Rattle.std.specs.Prelude.{◌≡◌, ℕ, ◌<◌, List, [], ◌∷◌, ◌++◌, codes, slice_get, unwrap_or, Option, Some, None, Result, Ok, Err, Contains}
+use Rattle.std.specs.Prelude.{◌≡◌, ◌⊎◌, ℕ, ◌<◌, List, [], ◌∷◌, ◌++◌, codes, slice_get, unwrap_or, Option, Some, None, Result, Ok, Err}
 use Rattle.std.specs.Fmt.{decimal}
 use Rattle.hy_core.specs.declared.refusal.RefusalKind.{RefusalKind}
 use Rattle.hy_core.specs.declared.refusal.RefusalKind.TheVariants as k
@@ -24,9 +24,9 @@ kind_name k.TooLong = codes "TooLong"
 abbrev pub refusal_text : List ℕ → RefusalKind → ℕ → List ℕ
 refusal_text name kind place = codes "hyb: " ++ name ++ codes ": " ++ kind_name kind ++ codes " at " ++ decimal place ++ 10 ∷ []
 
--- the refusal of the one file's text
-abbrev pub refused_at : RefusalKind → ℕ → TopFault
-refused_at kind place = Refused 0 (record { kind = kind; place = place })
+-- the refusal of a file's text
+abbrev pub refused_at : ℕ → RefusalKind → ℕ → TopFault
+refused_at file kind place = Refused file (record { kind = kind; place = place })
 
 abbrev file_name : List (List ℕ) → ℕ → List ℕ
 file_name files file = unwrap_or (slice_get files file) []
@@ -40,11 +40,15 @@ text_of_fault NotBuilt files = line (codes "hyb: not built")
 text_of_fault Write files = line (codes "hyb: write failed")
 text_of_fault Memory files = line (codes "hyb: out of memory")
 
+-- where the fault names a file, this holds of its place
+abbrev pub IfNamesFile : TopFault → (ℕ → Type 0) → Type 0
+IfNamesFile (Read file) Holds = Holds file
+IfNamesFile (Refused file refused) Holds = Holds file
+IfNamesFile _ Holds = Unit {0}
+
 -- the file that the fault names is one of so many
 abbrev pub IsOfFiles : TopFault → ℕ → Type 0
-IsOfFiles (Read file) count = file < count
-IsOfFiles (Refused file refused) count = file < count
-IsOfFiles _ count = Unit {0}
+IsOfFiles fault count = IfNamesFile fault (λ file. file < count)
 
 -- what may come while the output is written
 abbrev pub IsOfOutput : TopFault → Type 0
@@ -59,19 +63,24 @@ IsOfModule Write = Unit {0}
 IsOfModule Memory = Unit {0}
 IsOfModule _ = ⊥
 
--- what may come of the text of the one file
-abbrev pub IsOfText : TopFault → Type 0
-IsOfText Usage = ⊥
-IsOfText (Read file) = ⊥
-IsOfText (Refused file refused) = file ≡ 0
-IsOfText _ = Unit {0}
+-- what may come of the file at this place
+abbrev pub IsOfFile : ℕ → TopFault → Type 0
+IsOfFile place (Read file) = file ≡ place
+IsOfFile place (Refused file refused) = file ≡ place
+IsOfFile place Memory = Unit {0}
+IsOfFile place _ = ⊥
 
--- what may come of the one file
-abbrev pub IsOfFile : TopFault → Type 0
-IsOfFile Usage = ⊥
-IsOfFile (Read file) = file ≡ 0
-IsOfFile (Refused file refused) = file ≡ 0
-IsOfFile _ = Unit {0}
+-- what may come while the files are read
+abbrev pub IsOfLoading : TopFault → Type 0
+IsOfLoading (Read file) = Unit {0}
+IsOfLoading (Refused file refused) = Unit {0}
+IsOfLoading Memory = Unit {0}
+IsOfLoading _ = ⊥
+
+-- what may come of a command
+abbrev pub IsOfCommand : TopFault → Type 0
+IsOfCommand Usage = ⊥
+IsOfCommand _ = Unit {0}
 
 -- the status of the program for a fault
 abbrev pub status_of_fault : TopFault → ℕ
@@ -105,9 +114,9 @@ IsRefusal NotBuilt = Unit {0}
 IsRefusal (Refused file refused) = Unit {0}
 IsRefusal _ = ⊥
 
--- it is this fault, unless the text can't be read or memory runs out
-abbrev pub FailsWith : TopFault → Result ℕ TopFault → Type 0
-FailsWith fault answer = Contains (Err fault ∷ Err (Read 0) ∷ Err Memory ∷ []) answer
+-- it is this fault, unless one of so many files can't be read or memory runs out
+abbrev pub FailsWith : TopFault → ℕ → Option TopFault → Type 0
+FailsWith fault count refused = (refused ≡ Some fault) ⊎ ((file : ℕ) × (file < count) × (refused ≡ Some (Read file))) ⊎ (refused ≡ Some Memory)
 
 -- the run began to write
 abbrev pub HasWritten : Result ℕ TopFault → Type 0

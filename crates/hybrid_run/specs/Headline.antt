@@ -1,10 +1,9 @@
--- The run of a module of the arithmetic forms, as the copying machine has it.
-use Rattle.std.specs.Prelude.{◌≡◌, ℕ, ◌<◌, ◌^◌, List, [], ◌∷◌, Option, Some, None, Contains}
+-- What the program does with its modules: the run of a module of the arithmetic forms, as the copying machine has it, and the texts of mode `check`.
+use Rattle.std.specs.Prelude.{◌≡◌, ℕ, ◌<◌, ◌^◌, List, [], ◌∷◌, map, Option, Some, None, Contains}
 use Rattle.hy_core.specs.Built.{IsBuiltModule}
 use Rattle.hy_core.specs.BuiltIn.{own_atoms}
 use Rattle.hy_core.specs.FullRun.{NeverStopped, IsFullRun}
-use Rattle.hy_core.specs.Reading.{IsModuleText}
-use Rattle.hy_core.specs.Refusals.{IsRefusedText}
+use Rattle.hy_core.specs.Canonical.{canonical_text, one_after_another}
 use Rattle.hy_core.specs.Resolve.{Names, function_trees}
 use Rattle.hy_core.specs.Resolved.{FunctionTree}
 use Rattle.hy_core.specs.declared.end.End.{End}
@@ -14,8 +13,10 @@ use Rattle.hy_core.specs.declared.step.Step.{Step}
 use Rattle.hy_core.specs.declared.tree.Module.{Module}
 use Rattle.hybrid_run.specs.Arithmetic.{end_of, output_of}
 use Rattle.hybrid_run.specs.Faults.{refused_at}
-use Rattle.hybrid_run.specs.FileWords.{file_words}
+use Rattle.hybrid_run.specs.Loading.{Told, AreRead, IsFirstRefused}
 use Rattle.outside.specs.Outside.{Appends, AppendsPrefix}
+use Rattle.hybrid_run.specs.declared.command.Mode.{Mode}
+use Rattle.hybrid_run.specs.declared.command.Mode.TheVariants as m
 use Rattle.hybrid_run.specs.declared.fault.TopFault.{TopFault}
 use Rattle.hybrid_run.specs.declared.fault.TopFault.TheVariants as f
 use Rattle.hybrid_run.specs.declared.value.Value.{Value}
@@ -48,53 +49,51 @@ status_of_end (Raised class text) = 1
 status_of_end Waits = 4
 status_of_end (Stopped cause) = 5
 
--- the bytes appended are the output of a full run of the module, whose end gives the status
-pub record Ran (z : Module) (before now : Option (List ℕ)) (answer : ℕ) : Type 0 where
-  pub steps : List Step
-  pub end : End
-  pub output : List ℕ
-  pub full : IsModuleRun z steps (end ∷ []) output
-  pub written : Appends before now output
-  pub status : answer ≡ status_of_end end
+-- the canonical texts of modules, in order
+abbrev pub canonical_texts : List Module → List ℕ
+canonical_texts zs = one_after_another (map canonical_text zs)
 
--- the bytes appended are a first part of the output of a full run of the module
-pub record Cut (z : Module) (before now : Option (List ℕ)) : Type 0 where
-  pub steps : List Step
-  pub end : End
+-- What a mode writes for the modules of the files, and its status: the output of a full run of the one module, whose end gives the status; or the canonical texts.
+pub data Writes : Mode → List Module → List ℕ → ℕ → Type 0 where
+  run : {z : Module} {steps : List Step} {end : End} {output : List ℕ} → IsModuleRun z steps (end ∷ []) output → Writes m.Run (z ∷ []) output (status_of_end end)
+  check : {zs : List Module} → Writes m.Check zs (canonical_texts zs) 0
+
+-- A mode is built for these modules: one module of the arithmetic forms is run, and all are printed.
+pub data IsBuiltFor : Mode → List Module → Type 0 where
+  runs : {z : Module} → IsBuiltModule z → IsBuiltFor m.Run (z ∷ [])
+  prints : {zs : List Module} → IsBuiltFor m.Check zs
+
+-- the bytes appended are what the mode writes for these modules, with this status
+pub record Done (mode : Mode) (zs : List Module) (before now : Option (List ℕ)) (status : ℕ) : Type 0 where
   pub output : List ℕ
-  pub full : IsModuleRun z steps (end ∷ []) output
+  pub writes : Writes mode zs output status
+  pub written : Appends before now output
+
+-- the bytes appended are a first part of what the mode writes for these modules
+pub record Cut (mode : Mode) (zs : List Module) (before now : Option (List ℕ)) : Type 0 where
+  pub output : List ℕ
+  pub status : ℕ
+  pub writes : Writes mode zs output status
   pub written : AppendsPrefix before now output
 
--- the text is a module of the arithmetic part
-abbrev pub IsBuiltText : List ℕ → Type 0
-IsBuiltText text = (z : Module) × IsModuleText text z × IsBuiltModule z
+-- the files have modules for which the mode is built
+abbrev pub HasProgram : Mode → Told → List (List ℕ) → Type 0
+HasProgram mode told files = (zs : List Module) × AreRead told files zs × IsBuiltFor mode zs
 
--- the text is a module, and not of the arithmetic part
-abbrev pub IsOtherText : List ℕ → Type 0
-IsOtherText text = (z : Module) × IsModuleText text z × (IsBuiltModule z → ⊥)
+-- the files have modules, and the mode isn't built for them
+abbrev pub HasOtherProgram : Mode → Told → List (List ℕ) → Type 0
+HasOtherProgram mode told files = (zs : List Module) × AreRead told files zs × (IsBuiltFor mode zs → ⊥)
 
--- the text is no module of the arithmetic part
-abbrev pub HasNoBuiltModule : List ℕ → Type 0
-HasNoBuiltModule text = (z : Module) → IsModuleText text z → IsBuiltModule z → ⊥
+-- all is written: the first process ended or raised, or mode `check` came to its end
+abbrev pub IsDoneStatus : ℕ → Type 0
+IsDoneStatus status = status < 2
 
--- the text of the one file, where the sources tell it
-abbrev pub text_of_file : (List ℕ → Option (List ℕ)) → List (List ℕ) → Option (List ℕ)
-text_of_file told (name ∷ []) = told name
-text_of_file told _ = None
-
-abbrev pub told_text : (List ℕ → Option (List ℕ)) → List (List ℕ) → Option (List ℕ)
-told_text told words = text_of_file told (file_words words)
-
--- the first process ended, or raised
-abbrev pub IsRunStatus : ℕ → Type 0
-IsRunStatus status = status < 2
-
--- What is answered for each text, where nothing outside fails: the run of a module of the arithmetic
--- part comes to its end, another module isn't built, and what is no module is refused; or memory runs out.
-pub record IsAnswered (text : List ℕ) (status : ℕ) (refused : Option TopFault) : Type 0 where
-  pub runs : IsBuiltText text → Contains (0 ∷ 1 ∷ 8 ∷ []) status
-  pub not_built : IsOtherText text → Contains (Some f.NotBuilt ∷ Some f.Memory ∷ []) refused
-  pub source : (kind : RefusalKind) (place : ℕ) → IsRefusedText text kind place → Contains (Some (refused_at kind place) ∷ Some f.Memory ∷ []) refused
+-- What is answered for files whose texts are told, where nothing outside fails: the mode comes to its end where it is built for their modules, and isn't built for
+-- others; the first text that is no module is refused; or memory runs out.
+pub record IsAnswered (mode : Mode) (told : Told) (files : List (List ℕ)) (status : ℕ) (refused : Option TopFault) : Type 0 where
+  pub does : HasProgram mode told files → Contains (0 ∷ 1 ∷ 8 ∷ []) status
+  pub not_built : HasOtherProgram mode told files → Contains (Some f.NotBuilt ∷ Some f.Memory ∷ []) refused
+  pub source : (file : ℕ) (kind : RefusalKind) (place : ℕ) → IsFirstRefused told files file kind place → Contains (Some (refused_at file kind place) ∷ Some f.Memory ∷ []) refused
 
 -- usage, a text without a run and a read fault, with which nothing is written
 abbrev pub IsSilentStatus : ℕ → Type 0

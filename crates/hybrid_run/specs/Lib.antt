@@ -1,5 +1,7 @@
 pub mod Arithmetic
+pub mod CommandLine
 pub mod Faults
-pub mod FileWords
 pub mod Headline
+pub mod Line
+pub mod Loading
 pub mod Parts

@@ -2,17 +2,19 @@
 #![tactic(auto)]
 
 mod built;
+mod check;
+mod command;
 mod evaluate;
 mod fault;
+mod load;
 mod output;
 mod run;
 #[cfg(test)]
 mod tests;
 mod top;
 mod value;
-mod words;
 
+pub use command::{Mode, files};
 pub use core_reader::Refused;
 pub use fault::{TopFault, fault_text};
 pub use top::{Finish, hybrid};
-pub use words::files;

@@ -1,67 +1,66 @@
-ghost use Rattle.std.specs.Prelude.{◌≡◌, ℕ, IfOk, IfErr, IsErrOf};
+ghost use Rattle.std.specs.Prelude.{◌≡◌, [], ◌∷◌, IfOk, IfErr, IsErrOf};
 ghost use Rattle.hy_core.specs.Built.{IsBuiltModule};
-ghost use Rattle.hy_core.specs.Reading.{IsModuleText};
-ghost use Rattle.hy_core.specs.Refusals.{IsRefusedText};
-ghost use Rattle.hy_core.specs.declared.refusal.RefusalKind.{RefusalKind};
-ghost use Rattle.hy_core.specs.declared.tree.Module.{Module as Tree};
-ghost use Rattle.hybrid_run.specs.Faults.{FailsWith, HasWritten, IsOfModule, IsOfOutput, IsOfText, IsRefusal, IsSilent, refused_at};
-ghost use Rattle.hybrid_run.specs.Headline.{Ran, Cut, HasNoBuiltModule, IsBuiltText, IsOtherText, IsRunStatus};
+ghost use Rattle.hybrid_run.specs.Faults.{HasWritten, IsOfModule, IsOfOutput};
+ghost use Rattle.hybrid_run.specs.Headline.{Done, Cut, IsBuiltFor, IsDoneStatus};
 ghost use Rattle.outside.specs.Outside.{Rises};
 
 use crate::built::is_built_module;
+use crate::check::write_texts;
+use crate::command::Mode;
 use crate::evaluate::evaluate_module;
 use crate::fault::TopFault;
 use crate::output::write_output;
-use core_reader::{ReadAnswer, read_module};
 use hy_core::Module;
 use outside::{Gate, Sink};
 use std::alloc::Global;
 
-/// Runs the module of a text, and writes its output. Answers the status.
-pub fn run_text<K: Sink, G: Gate>(
+/// Does what a mode does with the modules of the files. Answers the status.
+pub fn run_mode<K: Sink, G: Gate>(
     alloc: Global,
-    text: &[u8],
+    mode: Mode,
+    modules: &[Module],
     sink: &mut K,
     gate: &G,
 ) -> Result<u8, TopFault>
-    ensures ran { IfOk result (λ status. (z : Tree) → IsModuleText text.now z → Ran z (K.written sink.old) (K.written sink.new) status) }
-    ensures accepted { HasWritten result → IsBuiltText text.now }
-    ensures cut { IsErrOf result TopFault.Write → (z : Tree) → IsModuleText text.now z → Cut z (K.written sink.old) (K.written sink.new) }
+    ensures done { IfOk result (λ status. Done mode modules.now (K.written sink.old) (K.written sink.new) status) }
+    ensures built { HasWritten result → IsBuiltFor mode modules.now }
+    ensures cut { IsErrOf result TopFault.Write → Cut mode modules.now (K.written sink.old) (K.written sink.new) }
     ensures rises { IsErrOf result TopFault.Write → Rises (K.faults sink.old) (K.faults sink.new) }
-    ensures refuses { IfErr result (λ fault. IsRefusal fault → HasNoBuiltModule text.now) }
-    ensures not_built { IsOtherText text.now → FailsWith TopFault.NotBuilt result }
-    ensures not_built_only { IsErrOf result TopFault.NotBuilt → IsOtherText text.now }
-    ensures source { (kind : RefusalKind) (place : ℕ) → IsRefusedText text.now kind place → FailsWith (refused_at kind place) result }
-    ensures source_only { (kind : RefusalKind) (place : ℕ) → IsErrOf result (refused_at kind place) → IsRefusedText text.now kind place }
-    ensures silent { IfErr result (λ fault. IsSilent fault → K.written sink.new ≡ K.written sink.old) }
-    ensures kinds { IfErr result IsOfText }
-    ensures status { IfOk result IsRunStatus }
+    ensures not_built { IsErrOf result TopFault.NotBuilt → IsBuiltFor mode modules.now → ⊥ }
+    ensures silent { IsErrOf result TopFault.NotBuilt → K.written sink.new ≡ K.written sink.old }
+    ensures kinds { IfErr result IsOfModule }
+    ensures status { IfOk result IsDoneStatus }
 {
-    match read_module(alloc, text) {
-        Ok(tree) => run_tree(alloc, &tree, sink, gate),
-        Err(ReadAnswer::Refused(refused)) => Err(TopFault::Refused { file: 0, refused }),
-        Err(ReadAnswer::Memory) => Err(TopFault::Memory),
+    match mode {
+        Mode::Run => run_program(alloc, modules, sink, gate),
+        Mode::Check => {
+            write_texts(alloc, modules, sink)?;
+            Ok(0)
+        }
     }
 }
 
-/// Runs a module where it is of the arithmetic part.
-fn run_tree<K: Sink, G: Gate>(
+/// Runs a program of one module, where that is of the arithmetic forms.
+fn run_program<K: Sink, G: Gate>(
     alloc: Global,
-    tree: &Module,
+    modules: &[Module],
     sink: &mut K,
     gate: &G,
 ) -> Result<u8, TopFault>
-    ensures ran { IfOk result (λ status. Ran tree.now (K.written sink.old) (K.written sink.new) status) }
-    ensures built { HasWritten result → IsBuiltModule tree.now }
-    ensures cut { IsErrOf result TopFault.Write → Cut tree.now (K.written sink.old) (K.written sink.new) }
+    ensures done { IfOk result (λ status. Done Mode.Run modules.now (K.written sink.old) (K.written sink.new) status) }
+    ensures built { HasWritten result → IsBuiltFor Mode.Run modules.now }
+    ensures cut { IsErrOf result TopFault.Write → Cut Mode.Run modules.now (K.written sink.old) (K.written sink.new) }
     ensures rises { IsErrOf result TopFault.Write → Rises (K.faults sink.old) (K.faults sink.new) }
-    ensures not_built { IsErrOf result TopFault.NotBuilt → IsBuiltModule tree.now → ⊥ }
+    ensures not_built { IsErrOf result TopFault.NotBuilt → IsBuiltFor Mode.Run modules.now → ⊥ }
     ensures silent { IsErrOf result TopFault.NotBuilt → K.written sink.new ≡ K.written sink.old }
     ensures kinds { IfErr result IsOfModule }
-    ensures status { IfOk result IsRunStatus }
+    ensures status { IfOk result IsDoneStatus }
 {
-    if is_built_module(alloc, tree)? {
-        run_module(alloc, tree, sink, gate)
+    let [module] = modules else {
+        return Err(TopFault::NotBuilt);
+    };
+    if is_built_module(alloc, module)? {
+        run_module(alloc, module, sink, gate)
     } else {
         Err(TopFault::NotBuilt)
     }
@@ -75,11 +74,11 @@ fn run_module<K: Sink, G: Gate>(
     gate: &G,
 ) -> Result<u8, TopFault>
     requires { IsBuiltModule tree.now }
-    ensures ran { IfOk result (λ status. Ran tree.now (K.written sink.old) (K.written sink.new) status) }
-    ensures cut { IsErrOf result TopFault.Write → Cut tree.now (K.written sink.old) (K.written sink.new) }
+    ensures done { IfOk result (λ status. Done Mode.Run (tree.now ∷ []) (K.written sink.old) (K.written sink.new) status) }
+    ensures cut { IsErrOf result TopFault.Write → Cut Mode.Run (tree.now ∷ []) (K.written sink.old) (K.written sink.new) }
     ensures rises { IsErrOf result TopFault.Write → Rises (K.faults sink.old) (K.faults sink.new) }
     ensures kinds { IfErr result IsOfOutput }
-    ensures status { IfOk result IsRunStatus }
+    ensures status { IfOk result IsDoneStatus }
 {
     gate.enter(0);
     let outcome = evaluate_module(alloc, tree);

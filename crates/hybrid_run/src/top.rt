@@ -1,18 +1,19 @@
-ghost use Rattle.std.specs.Prelude.{◌≡◌, ◌≤◌, ◌↔◌, ℕ, List, [], ◌∷◌, length, Contains, IfSome, Some, MatchOption, IfOk, IfErr, IsErrOf};
-ghost use Rattle.hy_core.specs.Reading.{IsModuleText};
-ghost use Rattle.hy_core.specs.Refusals.{IsRefusedText};
+ghost use Rattle.std.specs.Prelude.{◌≡◌, ◌+◌, ◌<◌, ◌≤◌, ℕ, List, [], ◌∷◌, length, slice_get, Contains, IfSome, Some, MatchOption, IfOk, IfErr, IsErrOf};
 ghost use Rattle.hy_core.specs.declared.refusal.RefusalKind.{RefusalKind};
 ghost use Rattle.hy_core.specs.declared.tree.Module.{Module};
-ghost use Rattle.hybrid_run.specs.Faults.{FailsWith, status_of_fault, status_of_answer, fault_of_answer, refused_at, HasWritten, IsOfFile, IsOfFiles, IsRefusal, IsSilent};
-ghost use Rattle.hybrid_run.specs.FileWords.{file_words};
-ghost use Rattle.hybrid_run.specs.Headline.{told_text, Ran, Cut, HasNoBuiltModule, IsBuiltText, IsOtherText, IsAnswered, IsRunStatus, IsSilentStatus};
+ghost use Rattle.hybrid_run.specs.CommandLine.{IsCommand, IsUsage, NameFiles, most_files};
+ghost use Rattle.hybrid_run.specs.Faults.{FailsWith, HasWritten, IfNamesFile, IsOfCommand, IsOfFiles, IsRefusal, IsSilent, fault_of_answer, refused_at, status_of_answer, status_of_fault};
+ghost use Rattle.hybrid_run.specs.Headline.{Cut, Done, HasOtherProgram, HasProgram, IsAnswered, IsDoneStatus, IsSilentStatus};
+ghost use Rattle.hybrid_run.specs.Loading.{AreRead, AreTold, IsFirstRefused, IsRefusedWhereTold, PassBefore};
+ghost use Rattle.hybrid_run.specs.declared.command.Mode.{Mode as Modes};
 ghost use Rattle.outside.specs.Outside.{Rises};
 
+use crate::command::{Command, command};
 use crate::fault::{TopFault, status_of};
-use crate::run::run_text;
-use crate::words::file_word;
+use crate::load::load_all;
+use crate::run::run_mode;
 use hy_terms::Words;
-use outside::{Gate, Sink, SourceFault, Sources};
+use outside::{Gate, Sink, Sources};
 use std::alloc::Global;
 use std::thread::Threads;
 
@@ -23,12 +24,12 @@ pub struct Finish {
     pub refused: Option<TopFault>,
 }
 
-/// Does all that the program does with the words of its command line: it reads the text of the one
-/// file, runs the module, and writes what the run displays and the outcome line of its process.
+/// Does all that the program does with the words of its command line: it reads the texts of the files,
+/// in order, and then runs the program of their modules, or writes the canonical text of each.
 ///
-/// The status is 0 or 1 where the process ended or raised, 2 where the words are usage, 3 where the
-/// text is no module or its module isn't built, 6 and 7 where the source or the sink failed, and 8 for
-/// want of memory.
+/// The status is 0 where the process ended or all texts are written, 1 where the process raised, 2
+/// where the words are usage, 3 where a text is no module or the program isn't built, 6 and 7 where a
+/// source or the sink failed, and 8 for want of memory.
 pub fn hybrid<R: Threads, S: Sources, K: Sink, G: Gate>(
     rt: &R,
     alloc: Global,
@@ -37,55 +38,61 @@ pub fn hybrid<R: Threads, S: Sources, K: Sink, G: Gate>(
     sink: &mut K,
     gate: &G,
 ) -> Finish
-    ensures usage { (result.status ≡ 2) ↔ (file_words words.now ≡ []) }
+    // Words that are no command line are usage, or memory runs out, and nothing else is usage.
+    ensures usage { IsUsage words.now → Contains (2 ∷ 8 ∷ []) result.status }
+    ensures usage_only { result.status ≡ 2 → IsUsage words.now }
 
-    // Where the text is told and is a module, its output is that of a full run of the copying machine.
-    ensures ran { IfSome (told_text (S.told sources.old) words.now) (λ text. (z : Module) → IsModuleText text z →
-        IsRunStatus result.status → Ran z (K.written sink.old) (K.written sink.new) result.status) }
-    ensures accepted { IfSome (told_text (S.told sources.old) words.now) (λ text. IsRunStatus result.status → IsBuiltText text) }
-    ensures cut { IfSome (told_text (S.told sources.old) words.now) (λ text. (z : Module) → IsModuleText text z →
-        result.status ≡ 7 → Cut z (K.written sink.old) (K.written sink.new)) }
+    // Where the texts are told and are modules, the bytes appended are what the mode writes for these.
+    ensures done { (mode : Modes) (files : List (List ℕ)) (zs : List Module) → IsCommand words.now mode files → AreRead (S.told sources.old) files zs →
+        IsDoneStatus result.status → Done mode zs (K.written sink.old) (K.written sink.new) result.status }
+    ensures accepted { (mode : Modes) (files : List (List ℕ)) → IsCommand words.now mode files → AreTold (S.told sources.old) files →
+        IsDoneStatus result.status → HasProgram mode (S.told sources.old) files }
+    ensures cut { (mode : Modes) (files : List (List ℕ)) (zs : List Module) → IsCommand words.now mode files → AreRead (S.told sources.old) files zs →
+        result.status ≡ 7 → Cut mode zs (K.written sink.old) (K.written sink.new) }
 
-    // A text that is no module of the arithmetic part has no run, and status 3 comes for no other.
-    ensures refuses { IfSome (told_text (S.told sources.old) words.now) (λ text. HasNoBuiltModule text →
-        Contains (3 ∷ 6 ∷ 8 ∷ []) result.status) }
-    ensures refuses_only { IfSome (told_text (S.told sources.old) words.now) (λ text. result.status ≡ 3 → HasNoBuiltModule text) }
+    // Where a text is no module or the mode isn't built for the modules nothing is done, and status 3 comes for no other files.
+    ensures refuses { (mode : Modes) (files : List (List ℕ)) → IsCommand words.now mode files → AreTold (S.told sources.old) files →
+        (HasProgram mode (S.told sources.old) files → ⊥) → Contains (3 ∷ 6 ∷ 8 ∷ []) result.status }
+    ensures refuses_only { (mode : Modes) (files : List (List ℕ)) → IsCommand words.now mode files →
+        result.status ≡ 3 → HasProgram mode (S.told sources.old) files → ⊥ }
 
-    // A module that isn't of the arithmetic part isn't built, and nothing else is so answered.
-    ensures not_built { IfSome (told_text (S.told sources.old) words.now) (λ text. IsOtherText text →
-        Contains (Some TopFault.NotBuilt ∷ Some (TopFault.Read 0) ∷ Some TopFault.Memory ∷ []) result.refused) }
-    ensures not_built_only { IfSome (told_text (S.told sources.old) words.now) (λ text.
-        result.refused ≡ Some TopFault.NotBuilt → IsOtherText text) }
+    // Modules for which the mode isn't built are so answered, or a file can't be read, or memory runs out; and no others are.
+    ensures not_built { (mode : Modes) (files : List (List ℕ)) → IsCommand words.now mode files → HasOtherProgram mode (S.told sources.old) files →
+        FailsWith TopFault.NotBuilt (length files) result.refused }
+    ensures not_built_only { (mode : Modes) (files : List (List ℕ)) → IsCommand words.now mode files → AreTold (S.told sources.old) files →
+        result.refused ≡ Some TopFault.NotBuilt → HasOtherProgram mode (S.told sources.old) files }
 
-    // A text that is no module is refused with the kind and the place of what is wrong first.
-    ensures source { IfSome (told_text (S.told sources.old) words.now) (λ text. (kind : RefusalKind) (place : ℕ) → IsRefusedText text kind place →
-        Contains (Some (refused_at kind place) ∷ Some (TopFault.Read 0) ∷ Some TopFault.Memory ∷ []) result.refused) }
-    ensures source_only { IfSome (told_text (S.told sources.old) words.now) (λ text. (kind : RefusalKind) (place : ℕ) →
-        result.refused ≡ Some (refused_at kind place) → IsRefusedText text kind place) }
+    // The first text that is no module is refused with the kind and the place of what is wrong first in it.
+    ensures source { (mode : Modes) (files : List (List ℕ)) (file : ℕ) (kind : RefusalKind) (place : ℕ) → IsCommand words.now mode files →
+        IsFirstRefused (S.told sources.old) files file kind place → FailsWith (refused_at file kind place) (file + 1) result.refused }
+    ensures source_only { (mode : Modes) (files : List (List ℕ)) (file : ℕ) (kind : RefusalKind) (place : ℕ) → IsCommand words.now mode files →
+        result.refused ≡ Some (refused_at file kind place) → IsRefusedWhereTold (S.told sources.old) files file kind place }
+    ensures before { (mode : Modes) (files : List (List ℕ)) → IsCommand words.now mode files →
+        IfSome result.refused (λ fault. IfNamesFile fault (λ file. PassBefore (S.told sources.old) files file)) }
 
     // Faults of the outside show in its counts.
-    ensures read { (name : List ℕ) → file_words words.now ≡ name ∷ [] → result.status ≡ 6 →
-        Rises (S.faults sources.old name) (S.faults sources.new name) }
+    ensures read { (mode : Modes) (files : List (List ℕ)) (file : ℕ) (name : List ℕ) → IsCommand words.now mode files →
+        result.refused ≡ Some (TopFault.Read file) → slice_get files file ≡ Some name → Rises (S.faults sources.old name) (S.faults sources.new name) }
     ensures write { result.status ≡ 7 → Rises (K.faults sink.old) (K.faults sink.new) }
 
-    // Where nothing outside fails, each text is answered as it is, or memory runs out.
-    ensures complete { IfSome (told_text (S.told sources.old) words.now) (λ text.
-        ((name : List ℕ) → file_words words.now ≡ name ∷ [] → Rises (S.faults sources.old name) (S.faults sources.new name) → ⊥) →
-        (Rises (K.faults sink.old) (K.faults sink.new) → ⊥) → IsAnswered text result.status result.refused) }
+    // Where nothing outside fails, each program is answered as it is, or memory runs out.
+    ensures complete { (mode : Modes) (files : List (List ℕ)) → IsCommand words.now mode files → AreTold (S.told sources.old) files →
+        ((name : List ℕ) → Contains files name → Rises (S.faults sources.old name) (S.faults sources.new name) → ⊥) →
+        (Rises (K.faults sink.old) (K.faults sink.new) → ⊥) → IsAnswered mode (S.told sources.old) files result.status result.refused }
 
     ensures silent { IsSilentStatus result.status → K.written sink.new ≡ K.written sink.old }
-    ensures refused { MatchOption result.refused (IsRunStatus result.status) (λ fault. result.status ≡ status_of_fault fault) }
-    ensures names_file { IfSome result.refused (λ fault. IsOfFiles fault (length (file_words words.now))) }
+    ensures refused { MatchOption result.refused (IsDoneStatus result.status) (λ fault. result.status ≡ status_of_fault fault) }
+    ensures names_file { (files : List (List ℕ)) → NameFiles words.now files → IfSome result.refused (λ fault. IsOfFiles fault (length files)) }
     ensures statuses { Contains (0 ∷ 1 ∷ 2 ∷ 3 ∷ 6 ∷ 7 ∷ 8 ∷ []) result.status }
 {
     let _ = rt;
-    let Some(name) = file_word(words) else {
-        return finish_of(Err(TopFault::Usage));
-    };
-    finish_of(run_file(alloc, name, sources, sink, gate))
+    match command(alloc, words) {
+        Ok(command) => finish_of(answer(alloc, &command, sources, sink, gate)),
+        Err(fault) => finish_of(Err(fault)),
+    }
 }
 
-/// The end of the program by what the run answers.
+/// The end of the program by what it answers.
 fn finish_of(answer: Result<u8, TopFault>) -> Finish
     ensures status { result.status ≡ status_of_answer answer }
     ensures refused { result.refused ≡ fault_of_answer answer }
@@ -102,36 +109,37 @@ fn finish_of(answer: Result<u8, TopFault>) -> Finish
     }
 }
 
-/// Reads the one file, and runs its module.
-fn run_file<S: Sources, K: Sink, G: Gate>(
+/// Does what the command asks for. Answers the status.
+fn answer<S: Sources, K: Sink, G: Gate>(
     alloc: Global,
-    name: &str,
+    command: &Command,
     sources: &mut S,
     sink: &mut K,
     gate: &G,
 ) -> Result<u8, TopFault>
-    ensures ran { IfOk result (λ status. IfSome (S.told sources.old name.now) (λ text. (z : Module) → IsModuleText text z →
-        Ran z (K.written sink.old) (K.written sink.new) status)) }
-    ensures accepted { HasWritten result → IfSome (S.told sources.old name.now) IsBuiltText }
-    ensures cut { IsErrOf result TopFault.Write → IfSome (S.told sources.old name.now) (λ text. (z : Module) → IsModuleText text z →
-        Cut z (K.written sink.old) (K.written sink.new)) }
-    ensures refuses { IfErr result (λ fault. IsRefusal fault → IfSome (S.told sources.old name.now) HasNoBuiltModule) }
-    ensures not_built { IfSome (S.told sources.old name.now) (λ text. IsOtherText text →
-        FailsWith TopFault.NotBuilt result) }
-    ensures not_built_only { IsErrOf result TopFault.NotBuilt → IfSome (S.told sources.old name.now) IsOtherText }
-    ensures source { IfSome (S.told sources.old name.now) (λ text. (kind : RefusalKind) (place : ℕ) → IsRefusedText text kind place →
-        FailsWith (refused_at kind place) result) }
-    ensures source_only { (kind : RefusalKind) (place : ℕ) → IsErrOf result (refused_at kind place) →
-        IfSome (S.told sources.old name.now) (λ text. IsRefusedText text kind place) }
-    ensures read { IsErrOf result (TopFault.Read 0) → Rises (S.faults sources.old name.now) (S.faults sources.new name.now) }
+    requires { length command.now.files ≤ most_files }
+    ensures done { IfOk result (λ status. (zs : List Module) → AreRead (S.told sources.old) command.now.files zs →
+        Done command.now.mode zs (K.written sink.old) (K.written sink.new) status) }
+    ensures accepted { HasWritten result → AreTold (S.told sources.old) command.now.files → HasProgram command.now.mode (S.told sources.old) command.now.files }
+    ensures cut { IsErrOf result TopFault.Write → (zs : List Module) → AreRead (S.told sources.old) command.now.files zs →
+        Cut command.now.mode zs (K.written sink.old) (K.written sink.new) }
+    ensures refuses { IfErr result (λ fault. IsRefusal fault → HasProgram command.now.mode (S.told sources.old) command.now.files → ⊥) }
+    ensures not_built { HasOtherProgram command.now.mode (S.told sources.old) command.now.files →
+        FailsWith TopFault.NotBuilt (length command.now.files) (fault_of_answer result) }
+    ensures not_built_only { IsErrOf result TopFault.NotBuilt → AreTold (S.told sources.old) command.now.files →
+        HasOtherProgram command.now.mode (S.told sources.old) command.now.files }
+    ensures source { (file : ℕ) (kind : RefusalKind) (place : ℕ) → IsFirstRefused (S.told sources.old) command.now.files file kind place →
+        FailsWith (refused_at file kind place) (file + 1) (fault_of_answer result) }
+    ensures source_only { (file : ℕ) (kind : RefusalKind) (place : ℕ) → IsErrOf result (refused_at file kind place) →
+        IsRefusedWhereTold (S.told sources.old) command.now.files file kind place }
+    ensures before { IfErr result (λ fault. IfNamesFile fault (λ file. (file < length command.now.files) × PassBefore (S.told sources.old) command.now.files file)) }
+    ensures read { (file : ℕ) (name : List ℕ) → IsErrOf result (TopFault.Read file) → slice_get command.now.files file ≡ Some name →
+        Rises (S.faults sources.old name) (S.faults sources.new name) }
     ensures write { IsErrOf result TopFault.Write → Rises (K.faults sink.old) (K.faults sink.new) }
     ensures silent { IfErr result (λ fault. IsSilent fault → K.written sink.new ≡ K.written sink.old) }
-    ensures kinds { IfErr result IsOfFile }
-    ensures status { IfOk result IsRunStatus }
+    ensures kinds { IfErr result IsOfCommand }
+    ensures status { IfOk result IsDoneStatus }
 {
-    match sources.read(alloc, name) {
-        Ok(text) => run_text(alloc, text.as_slice(), sink, gate),
-        Err(SourceFault::Failed) => Err(TopFault::Read { file: 0 }),
-        Err(SourceFault::Memory) => Err(TopFault::Memory),
-    }
+    let modules = load_all(alloc, &command.files, sources)?;
+    run_mode(alloc, command.mode, modules.as_slice(), sink, gate)
 }

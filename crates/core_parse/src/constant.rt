@@ -1,0 +1,60 @@
+ghost use Rattle.std.specs.Prelude.{◌≡◌};
+ghost use Rattle.hy_core.specs.Marks.{constant};
+ghost use Rattle.core_parse.specs.Machine.{checked, constant_begun, constant_opened, value_begun, value_mark};
+ghost use Rattle.core_parse.specs.Answers.{GivesState};
+ghost use Rattle.hy_core.specs.declared.token.Token.TheVariants.{Word as WordToken};
+
+use crate::answer::StepFault;
+use crate::level::inside;
+use crate::state::{Closer, Goal, Part, State};
+use hy_core::{RefusalKind, Token, Word};
+
+/// The first token of a constant of this level, of which nothing is kept.
+pub fn begin_constant(level: u32, token: &Token, state: &mut State) -> Result<(), StepFault>
+    ensures { GivesState result state.new (checked (constant level token.now) (constant_begun level state.old.goals state.old.values state.old.tables token.now)) }
+{
+    match token {
+        Token::Variable(_) => Err(StepFault::Refused(RefusalKind::Unexpected)),
+        Token::Word(word) => open_constant(level, *word, state),
+        _ => {
+            inside(level)?;
+            Ok(())
+        }
+    }
+}
+
+/// The mark that begins a constant of this level.
+fn open_constant(level: u32, word: Word, state: &mut State) -> Result<(), StepFault>
+    ensures { GivesState result state.new (checked (constant level (WordToken word)) (constant_opened level state.old.goals state.old.values state.old.tables word)) }
+{
+    match word {
+        Word::OpenList => {
+            inside(level)?;
+            state.goals.push(Goal::Heads(Part::Constant, level))?;
+        }
+        Word::OpenTuple => {
+            let inner = inside(level)?;
+            state
+                .goals
+                .push(Goal::Parts(Part::Constant, inner, Closer::Tuple))?;
+        }
+        _ => return Err(StepFault::Refused(RefusalKind::Unexpected)),
+    }
+    Ok(())
+}
+
+/// The first token of an attribute's value.
+pub fn begin_value(level: u32, token: &Token, state: &mut State) -> Result<(), StepFault>
+    ensures { GivesState result state.new (checked (value_mark level token.now) (value_begun level state.old.goals state.old.values state.old.tables token.now)) }
+{
+    match token {
+        Token::Word(Word::Open) => {
+            let inner = inside(level)?;
+            state
+                .goals
+                .push_all(&[Goal::AttributeValue(inner), Goal::Note(level)])?;
+            Ok(())
+        }
+        _ => begin_constant(level, token, state),
+    }
+}

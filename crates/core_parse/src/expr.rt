@@ -1,0 +1,213 @@
+ghost use Rattle.std.specs.Prelude.{◌≡◌, IfOk};
+ghost use Rattle.hy_core.specs.Marks.{at};
+ghost use Rattle.hy_core.specs.Expressions.{string_expr};
+ghost use Rattle.core_parse.specs.Machine.{checked, expr_begun, expr_opened};
+ghost use Rattle.core_parse.specs.Answers.{GivesState};
+ghost use Rattle.hy_core.specs.declared.token.Token.TheVariants.{Word as WordToken};
+
+use crate::answer::StepFault;
+use crate::interning::number_of;
+use crate::level::inside;
+use crate::number::integer;
+use crate::state::{Closer, Form, Goal, Part, State, Value};
+use hy_core::{Expr, RefusalKind, Text, Token, Word};
+use sqlite_items::Items;
+use std::alloc::{AllocError, Global};
+
+/// A string, which is nil where it is empty.
+fn string(alloc: Global, bytes: &[u8]) -> Result<Expr, AllocError>
+    ensures { IfOk result (λ x. x ≡ string_expr bytes.now) }
+{
+    if bytes.is_empty() {
+        return Ok(Expr::Nil);
+    }
+    Ok(Expr::Str(Text::from_vec(Vec::from_slice(alloc, bytes)?)))
+}
+
+/// The first token of an expression of this level.
+pub fn begin_expr(
+    alloc: Global,
+    level: u32,
+    token: &Token,
+    state: &mut State,
+) -> Result<(), StepFault>
+    ensures { GivesState result state.new (checked (at level token.now) (expr_begun level state.old.goals state.old.values state.old.tables token.now)) }
+{
+    match token {
+        Token::Integer(sign, digits) => {
+            inside(level)?;
+            let n = integer(*sign, digits.as_slice()).ok_or(StepFault::Refused(
+                RefusalKind::NumberRange,
+            ))?;
+            state.values.push(Value::Expr(Expr::Int(n)))?;
+        }
+        Token::Character(code) => {
+            inside(level)?;
+            state.values.push(Value::Expr(Expr::Int(i64::from(*code))))?;
+        }
+        Token::Atom(text) => {
+            inside(level)?;
+            let atom = number_of(&mut state.tables.atoms, text.as_slice())?;
+            state.values.push(Value::Atom(atom))?;
+            state.goals.push(Goal::NameOrAtom)?;
+        }
+        Token::Str(text) => {
+            inside(level)?;
+            state
+                .values
+                .push(Value::Expr(string(alloc, text.as_slice())?))?;
+        }
+        Token::Variable(name) => {
+            inside(level)?;
+            let var = number_of(&mut state.tables.variables, name.as_slice())?;
+            state.values.push(Value::Expr(Expr::Var(var)))?;
+        }
+        Token::Word(word) => open_expr(alloc, level, *word, state)?,
+    }
+    Ok(())
+}
+
+/// The keyword or mark that begins an expression of this level.
+fn open_expr(alloc: Global, level: u32, word: Word, state: &mut State) -> Result<(), StepFault>
+    ensures { GivesState result state.new (checked (at level (WordToken word)) (expr_opened level state.old.goals state.old.values state.old.tables word)) }
+{
+    match word {
+        Word::OpenList => {
+            inside(level)?;
+            state.values.push(Value::Exprs(Items::new(alloc)))?;
+            state.goals.push(Goal::Heads(Part::Expr, level))?;
+        }
+        Word::OpenTuple => {
+            let inner = inside(level)?;
+            state.goals.push_all(&[
+                Goal::Parts(Part::Expr, inner, Closer::Tuple),
+                Goal::Build(Form::Tuple),
+            ])?;
+        }
+        Word::Let => {
+            let inner = inside(level)?;
+            state.goals.push_all(&[
+                Goal::Bindings(inner),
+                Goal::Word(Word::Equals),
+                Goal::Part(Part::Expr, inner),
+                Goal::Word(Word::In),
+                Goal::Part(Part::Expr, inner),
+                Goal::Build(Form::Let),
+            ])?;
+        }
+        Word::Less => {
+            let inner = inside(level)?;
+            state.goals.push_all(&[
+                Goal::Parts(Part::Expr, inner, Closer::Values),
+                Goal::Build(Form::Values),
+            ])?;
+        }
+        Word::Do => {
+            let inner = inside(level)?;
+            state.goals.push_all(&[
+                Goal::Part(Part::Expr, inner),
+                Goal::Part(Part::Expr, inner),
+                Goal::Build(Form::Do),
+            ])?;
+        }
+        Word::Case => {
+            let inner = inside(level)?;
+            state.goals.push_all(&[
+                Goal::Part(Part::Expr, inner),
+                Goal::Word(Word::Of),
+                Goal::Build(Form::NoClauses),
+                Goal::Clause(inner, false),
+                Goal::Clauses(inner, Closer::Case),
+                Goal::Build(Form::Case),
+            ])?;
+        }
+        Word::Letrec => {
+            let inner = inside(level)?;
+            state.values.push(Value::Functions(Items::new(alloc)))?;
+            state.goals.push_all(&[
+                Goal::Functions(inner),
+                Goal::Part(Part::Expr, inner),
+                Goal::Build(Form::Letrec),
+            ])?;
+        }
+        Word::Apply => {
+            let inner = inside(level)?;
+            state.goals.push_all(&[
+                Goal::Part(Part::Expr, inner),
+                Goal::Word(Word::Open),
+                Goal::Parts(Part::Expr, inner, Closer::Arguments),
+                Goal::Build(Form::Apply),
+            ])?;
+        }
+        Word::Call => {
+            let inner = inside(level)?;
+            state.goals.push_all(&[
+                Goal::Part(Part::Expr, inner),
+                Goal::Word(Word::Colon),
+                Goal::Part(Part::Expr, inner),
+                Goal::Word(Word::Open),
+                Goal::Parts(Part::Expr, inner, Closer::Arguments),
+                Goal::Build(Form::Call),
+            ])?;
+        }
+        Word::Primop => {
+            let inner = inside(level)?;
+            state.goals.push_all(&[
+                Goal::Primop(inner),
+                Goal::Word(Word::Open),
+                Goal::Parts(Part::Expr, inner, Closer::Arguments),
+                Goal::Build(Form::Primop),
+            ])?;
+        }
+        Word::Receive => {
+            let inner = inside(level)?;
+            state.values.push(Value::Clauses(Items::new(alloc)))?;
+            state.goals.push_all(&[
+                Goal::Clauses(inner, Closer::Receive),
+                Goal::Part(Part::Expr, inner),
+                Goal::Word(Word::Arrow),
+                Goal::Part(Part::Expr, inner),
+                Goal::Build(Form::Receive),
+            ])?;
+        }
+        Word::Try => {
+            let inner = inside(level)?;
+            state.goals.push_all(&[
+                Goal::Part(Part::Expr, inner),
+                Goal::Word(Word::Of),
+                Goal::Bindings(inner),
+                Goal::Word(Word::Arrow),
+                Goal::Part(Part::Expr, inner),
+                Goal::Word(Word::Catch),
+                Goal::Bindings(inner),
+                Goal::Word(Word::Arrow),
+                Goal::Part(Part::Expr, inner),
+                Goal::Build(Form::Try),
+            ])?;
+        }
+        Word::Catch => {
+            let inner = inside(level)?;
+            state
+                .goals
+                .push_all(&[Goal::Part(Part::Expr, inner), Goal::Build(Form::Catch)])?;
+        }
+        Word::Fun => {
+            let inner = inside(level)?;
+            state.goals.push_all(&[
+                Goal::Word(Word::Open),
+                Goal::Parts(Part::Variable, inner, Closer::Arguments),
+                Goal::Word(Word::Arrow),
+                Goal::Part(Part::Expr, inner),
+                Goal::Build(Form::Fun),
+            ])?;
+        }
+        Word::Open => {
+            let inner = inside(level)?;
+            state
+                .goals
+                .push_all(&[Goal::Part(Part::Expr, inner), Goal::Note(level)])?;
+        }
+        _ => return Err(StepFault::Refused(RefusalKind::Unexpected)),
+    }
+    Ok(())
+}

@@ -1,0 +1,117 @@
+ghost use Rattle.std.specs.Prelude.{◌≡◌, [], length, IfOk};
+ghost use Rattle.hy_core.specs.Reading.{tokens_in};
+ghost use Rattle.core_parse.specs.Machine.{word_in, stepped, module_built, ended, ended_at, run, start};
+ghost use Rattle.core_parse.specs.Answers.{GivesState, GivesReading};
+ghost use Rattle.core_parse.specs.Steps.{GivesModule};
+
+use crate::answer::{RefusedToken, StepFault, TokenAnswer, UNEXPECTED};
+use crate::pop::{pop_atom, pop_functions, pop_names};
+use crate::settle::next_goal;
+use crate::stack::Stack;
+use crate::state::{Goal, State, Value};
+use crate::step::take;
+use hy_core::{Lexeme, Module, RefusalKind, Tables, Token, Word};
+use hy_terms::Atoms;
+use std::alloc::{AllocError, Global};
+
+/// A module is to be read, and nothing was read.
+fn begin(alloc: Global) -> Result<State, AllocError>
+    ensures { IfOk result (λ state. state ≡ start) }
+{
+    let mut goals = Stack::new(alloc);
+    goals.push(Goal::Module(0))?;
+    Ok(State {
+        goals,
+        values: Stack::new(alloc),
+        tables: Tables {
+            atoms: Atoms::new(alloc),
+            variables: Atoms::new(alloc),
+        },
+    })
+}
+
+fn word_of(token: &Token) -> Option<Word>
+    ensures { result ≡ word_in token.now }
+{
+    match token {
+        Token::Word(word) => Some(*word),
+        _ => None,
+    }
+}
+
+/// Takes one token.
+fn step(alloc: Global, token: &Token, state: &mut State) -> Result<(), StepFault>
+    ensures { GivesState result state.new (stepped state.old token.now) }
+{
+    match next_goal(alloc, word_of(token), state)? {
+        Some(goal) => take(alloc, goal, token, state),
+        None => Err(UNEXPECTED),
+    }
+}
+
+/// The module whose parts were read.
+fn build_module(values: Stack<Value>, tables: Tables) -> Result<Module, StepFault>
+    ensures { GivesModule result (module_built values tables) }
+{
+    let mut values = values;
+    let functions = pop_functions(&mut values)?;
+    let exports = pop_names(&mut values)?;
+    let name = pop_atom(&mut values)?;
+    match values.pop() {
+        None => Ok(Module {
+            name,
+            exports,
+            functions,
+            atoms: tables.atoms,
+            variables: tables.variables,
+        }),
+        Some(other) => {
+            drop(other);
+            Err(UNEXPECTED)
+        }
+    }
+}
+
+/// The module where no token is left.
+fn finish(alloc: Global, state: State) -> Result<Module, StepFault>
+    ensures { GivesModule result (ended state) }
+{
+    let mut state = state;
+    match next_goal(alloc, None, &mut state)? {
+        None => build_module(state.values, state.tables),
+        Some(_) => Err(UNEXPECTED),
+    }
+}
+
+/// What the end of so many tokens answers.
+fn end(alloc: Global, state: State, index: usize) -> Result<Module, TokenAnswer>
+    ensures { GivesReading result (ended_at index (ended state)) }
+{
+    match finish(alloc, state) {
+        Ok(module) => Ok(module),
+        Err(StepFault::Memory) => Err(TokenAnswer::Memory),
+        Err(StepFault::Refused(_)) => Err(TokenAnswer::Refused(RefusedToken {
+            kind: RefusalKind::Ended,
+            index,
+        })),
+    }
+}
+
+/// The tree of a module's tokens.
+pub fn read_tokens(alloc: Global, lexemes: &[Lexeme]) -> Result<Module, TokenAnswer>
+    ensures { GivesReading result (run 0 (tokens_in lexemes.now) start) }
+{
+    let Ok(mut state) = begin(alloc) else {
+        return Err(TokenAnswer::Memory);
+    };
+    for (index, lexeme) in lexemes.iter().enumerate() {
+        match step(alloc, &lexeme.token, &mut state) {
+            Ok(()) => {}
+            Err(StepFault::Memory) => return Err(TokenAnswer::Memory),
+            Err(StepFault::Refused(kind)) => {
+                return Err(TokenAnswer::Refused(RefusedToken { kind, index }));
+            }
+        }
+    }
+    end(alloc, state, lexemes.len())
+}

@@ -1,0 +1,74 @@
+ghost use Rattle.std.specs.Prelude.{◌≡◌, ◌≤◌, ◌<◌, ℕ, List, length, slice_get, Some, IfOk, IfErr, IsErrOf};
+ghost use Rattle.hy_core.specs.Reading.{IsModuleText};
+ghost use Rattle.hy_core.specs.Refusals.{IsRefusedText};
+ghost use Rattle.hy_core.specs.declared.refusal.RefusalKind.{RefusalKind};
+ghost use Rattle.hybrid_run.specs.CommandLine.{most_files};
+ghost use Rattle.hybrid_run.specs.Faults.{IfNamesFile, IsOfFile, IsOfLoading, refused_at};
+ghost use Rattle.hybrid_run.specs.Loading.{AreReadWhereTold, IsReadWhereTold, IsRefusedWhereTold, PassBefore};
+ghost use Rattle.outside.specs.Outside.{Rises};
+
+use crate::fault::TopFault;
+use core_reader::{ReadAnswer, read_module};
+use hy_core::Module;
+use hy_terms::Words;
+use outside::{SourceFault, Sources};
+use std::alloc::Global;
+
+/// Reads the text of each file, and its module, in order, up to the first fault.
+pub fn load_all<S: Sources>(
+    alloc: Global,
+    files: &Words,
+    sources: &mut S,
+) -> Result<Vec<Module>, TopFault>
+    requires { length files.now ≤ most_files }
+    ensures loaded { IfOk result (λ modules. AreReadWhereTold (S.told sources.old) files.now modules.items) }
+    ensures refused { (file : ℕ) (kind : RefusalKind) (place : ℕ) → IsErrOf result (refused_at file kind place) →
+        IsRefusedWhereTold (S.told sources.old) files.now file kind place }
+    ensures read { (file : ℕ) (name : List ℕ) → IsErrOf result (TopFault.Read file) → slice_get files.now file ≡ Some name →
+        Rises (S.faults sources.old name) (S.faults sources.new name) }
+    ensures before { IfErr result (λ fault. IfNamesFile fault (λ file. (file < length files.now) × PassBefore (S.told sources.old) files.now file)) }
+    ensures kinds { IfErr result IsOfLoading }
+{
+    let mut modules = Vec::new(alloc);
+    for place in 0..files.len() {
+        let module = load(alloc, place as u32, files.word(place), sources)?;
+        modules.push(module)?;
+    }
+    Ok(modules)
+}
+
+/// Reads the text of the file at this place, and its module.
+fn load<S: Sources>(
+    alloc: Global,
+    file: u32,
+    name: &str,
+    sources: &mut S,
+) -> Result<Module, TopFault>
+    ensures loaded { IfOk result (λ module. IsReadWhereTold (S.told sources.old) name.now module) }
+    ensures refused { (kind : RefusalKind) (place : ℕ) → IsErrOf result (refused_at file kind place) →
+        (text : List ℕ) → S.told sources.old name.now ≡ Some text → IsRefusedText text kind place }
+    ensures read { IsErrOf result (TopFault.Read file) → Rises (S.faults sources.old name.now) (S.faults sources.new name.now) }
+    ensures kinds { IfErr result (IsOfFile file) }
+    ensures counts { (other : List ℕ) → S.faults sources.old other ≤ S.faults sources.new other }
+    ensures same { (other : List ℕ) → S.told sources.new other ≡ S.told sources.old other }
+{
+    match sources.read(alloc, name) {
+        Ok(text) => parse(alloc, file, text.as_slice()),
+        Err(SourceFault::Failed) => Err(TopFault::Read { file }),
+        Err(SourceFault::Memory) => Err(TopFault::Memory),
+    }
+}
+
+/// The module of the text of the file at this place.
+fn parse(alloc: Global, file: u32, text: &[u8]) -> Result<Module, TopFault>
+    ensures loaded { IfOk result (λ module. IsModuleText text.now module) }
+    ensures refused { (kind : RefusalKind) (place : ℕ) → IsErrOf result (refused_at file kind place) → IsRefusedText text.now kind place }
+    ensures kinds { IfErr result (IsOfFile file) }
+    ensures never { IsErrOf result (TopFault.Read file) → ⊥ }
+{
+    match read_module(alloc, text) {
+        Ok(module) => Ok(module),
+        Err(ReadAnswer::Refused(refused)) => Err(TopFault::Refused { file, refused }),
+        Err(ReadAnswer::Memory) => Err(TopFault::Memory),
+    }
+}
