@@ -2,8 +2,9 @@
 use Rattle.std.proofs.Common.{◌≡◌, ℕ, ◌+◌, ◌≤◌, List, [], ◌∷◌, ◌++◌, refl, sym, ap, ◌∙◌, arith}
 use Rattle.std.proofs.lemmas.List.{append_assoc}
 use Rattle.hy_core.specs.Marks.{Marked, at, plain, word}
-use Rattle.hy_core.specs.Canonical.{token}
+use Rattle.hy_core.specs.Canonical.{token, after_commas, with_commas, one_after_another}
 use Rattle.hy_core.specs.declared.token.Word.{Word}
+use Rattle.hy_core.specs.declared.token.Word.TheVariants as w
 use Rattle.hy_core.specs.declared.token.Token.{Token}
 use Rattle.hy_core.specs.declared.token.Token.TheVariants as t
 use Rattle.core_print.proofs.Spelling.{token_text, word_text, spaced, IsFine, AreFine}
@@ -43,3 +44,18 @@ no_deeper p = record { front = p.front; spells = p.spells; fine = λ k le r f. p
 -- the same text in other words
 abbrev pub same_text : {n : ℕ} {a b : List ℕ} → a ≡ b → Piece n a → Piece n b
 same_text e p = record { front = p.front; spells = λ k r. p.spells k r ∙ ap (λ (x : List ℕ). x ++ spaced r) e; fine = p.fine }
+
+-- a piece before one of two texts
+abbrev pub before : {n : ℕ} {a : List ℕ} (b c : List ℕ) → Piece n a → Piece n (b ++ c) → Piece n ((a ++ b) ++ c)
+before {a = a} b c p q = same_text (sym (append_assoc a b c)) (both p q)
+
+-- a part in front of others with commas between them, and what closes them
+module _ {n : ℕ} {a : List ℕ} (texts : List (List ℕ)) (close : List ℕ) (p : Piece n a) where
+  abbrev pub first_part : Piece n (after_commas texts ++ close) → Piece n (with_commas (a ∷ texts) ++ close)
+  first_part q = before (after_commas texts) close p q
+
+  abbrev pub next_part : Piece n (after_commas texts ++ close) → Piece n (after_commas (a ∷ texts) ++ close)
+  next_part q = both (one_word w.Comma) (first_part q)
+
+  abbrev pub another_part : Piece n (one_after_another texts ++ close) → Piece n (one_after_another (a ∷ texts) ++ close)
+  another_part q = before (one_after_another texts) close p q

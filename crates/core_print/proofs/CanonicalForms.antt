@@ -1,6 +1,6 @@
 -- What the folds of canonical texts give at each form of a tree.
-use Rattle.std.proofs.Common.{◌≡◌, ℕ, ℤ, List, ◌++◌, codes, map, sym, ap, ◌∙◌}
-use Rattle.hy_core.specs.Canonical.{Part, pattern_step, pattern_part, expr_step, clause_step, function_step, expr_part, clause_text, function_text, texts_of, with_commas, name_text, fun_text}
+use Rattle.std.proofs.Common.{◌≡◌, ℕ, ℤ, List, map, sym, ap, ◌∙◌}
+use Rattle.hy_core.specs.Canonical.{Part, pattern_step, pattern_part, expr_step, clause_step, function_step, expr_part, clause_text, function_text}
 use Rattle.hy_core.specs.declared.tree.Clause.{Clause}
 use Rattle.hy_core.specs.declared.tree.Expr.{Expr}
 use Rattle.hy_core.specs.declared.tree.Expr.TheVariants as e
@@ -80,6 +80,12 @@ module _ (names : Module) where
 
   pub part-Fun : (params : List ℕ) (body : Expr) → whole (e.Fun params body) ≡ expr_step names (layer.Fun params (whole body))
   part-Fun params body = ap whole (sym (e.rolls-Fun params body)) ∙ fold-roll-Expr Part (List ℕ) (List ℕ) (expr_step names) (clause_step names) (function_step names) (layer.Fun params body)
+
+  pub clause_text-is : (c : Clause) → clause_text names c ≡ clause_step names (record { patterns = c.patterns; guard = whole c.guard; body = whole c.body })
+  clause_text-is c = fold_out-Clause Part (List ℕ) (List ℕ) (expr_step names) (clause_step names) (function_step names) c
+
+  pub function_text-is : (f : Function) → function_text names f ≡ function_step names (record { name = f.name; params = f.params; body = whole f.body })
+  function_text-is f = fold_out-Function Part (List ℕ) (List ℕ) (expr_step names) (clause_step names) (function_step names) f
 
   pub pattern-Var : (x : ℕ) → whole_pattern (p.Var x) ≡ pattern_step names (pattern_layer.Var x)
   pattern-Var x = ap whole_pattern (sym (p.rolls-Var x)) ∙ fold-roll-Pattern Part (pattern_step names) (pattern_layer.Var x)

@@ -1,5 +1,9 @@
 pub mod AgainLeft
+pub mod AgainNames
+pub mod AgainPatterns
 pub mod AgainPieces
+pub mod AgainStarts
+pub mod AgainVariables
 pub mod CanonicalForms
 pub mod ListEnd
 pub mod Numbers
