@@ -20,7 +20,7 @@ use Rattle.core_print.proofs.Numbers.{IsSpelled, integer_spelled, character_spel
 use Rattle.core_print.proofs.Tables.{Keeps, before_atom, before_variable, variable_kept}
 use Rattle.core_print.proofs.ListEnd.{list_end-nil, list_end-other}
 use Rattle.core_print.proofs.CanonicalForms as forms
-use Rattle.core_print.proofs.AgainPieces.{Piece, one_word, opened, both, deeper, no_deeper, same_text, first_part, next_part}
+use Rattle.core_print.proofs.AgainPieces.{Piece, one_word, opened, ◌▷◌, deeper, no_deeper, same_text, first_part, next_part}
 use Rattle.core_print.proofs.AgainLeft.{pattern_left, more_patterns_left, aliased_left, pattern_end_left}
 use Rattle.core_print.proofs.AgainStarts.{is_apart, IsApart, IsItem, apart_item, no_equals, no_list, Again, again_no_deeper}
 use Rattle.core_print.proofs.AgainNames.{atom_spelled}
@@ -52,14 +52,14 @@ pub data PatternAgain (n : ℕ) (z : Module) (s : Tables) (x : Pattern) (u : Tab
   item : IsNoList z x → (a : Again n z s (pattern_text z x) (PatternReads s x u)) → ((k : ℕ) (r : List Marked) → IsItem (a.piece.front k r)) → PatternAgain n z s x u
   list : ListAgain n z s x u → PatternAgain n z s x u
 
--- a pattern that isn't the first of a tail's tokens
+-- what begins no list notation is the tail of one
 other_tail : {k : ℕ} {s u : Tables} {x : Pattern} {ms r : List Marked} → IsItem ms → IsPattern (k + 1) s ms x u r → IsPatternTail k s ms x u r
 other_tail {ms = []} is d = absurd is
 other_tail {ms = m ∷ ms} is d = pats.other_tail (no_list m is) d
 
 module _ {z : Module} where
   end_no_deeper : {n : ℕ} {s u : Tables} {xs : List Pattern} {tail : Pattern} → EndAgain (n + 1) z s xs tail u → EndAgain n z s xs tail u
-  end_no_deeper e = record { heads = e.heads; end = e.end; joins = e.joins; simple = e.simple; again = again_no_deeper e.again }
+  end_no_deeper behind = record { heads = behind.heads; end = behind.end; joins = behind.joins; simple = behind.simple; again = again_no_deeper behind.again }
 
   module _ {n : ℕ} {s u : Tables} {x : Pattern} where
     pub as_pattern : PatternAgain n z s x u → Again n z s (pattern_text z x) (PatternReads s x u)
@@ -74,7 +74,7 @@ module _ {z : Module} where
       joins = λ ys. is.joins (ys ++ []);
       simple = is.joins;
       again = record {
-        piece = same_text (sym (list_end-other (pattern_part z x) is.not_nil)) (both (one_word w.Bar) (both (deeper a.piece) (one_word w.CloseList)));
+        piece = same_text (sym (list_end-other (pattern_part z x) is.not_nil)) (one_word w.Bar ▷ deeper a.piece ▷ one_word w.CloseList);
         reads = λ k r. (refl, pats.tail (other_tail (starts (k + 1) (word w.CloseList ∷ r)) ((a.reads (k + 1) (word w.CloseList ∷ r)).1 refl)));
         keeps = a.keeps;
       };
@@ -102,7 +102,7 @@ module _ {z : Module} where
       let joins : (xs : List Pattern) → joined_pattern xs p.Nil ≡ p.List xs p.Nil = λ xs. ap (joined_at xs p.Nil) views.outs-Nil in
       record {
         again = record {
-          piece = same_text (sym (ap (λ (y : Part). y.text) (forms.pattern-Nil z))) (both (opened (t.Word w.OpenList) ((shallow, tt), tt)) (one_word w.CloseList));
+          piece = same_text (sym (ap (λ (y : Part). y.text) (forms.pattern-Nil z))) (opened (t.Word w.OpenList) ((shallow, tt), tt) ▷ one_word w.CloseList);
           reads = λ k r. (refl, λ after. pats.list pats.nil);
           keeps = keeps;
         };
@@ -122,28 +122,28 @@ module _ {z : Module} where
   -- a list notation of this head and what is behind it
   heads_form : {n : ℕ} {s u o : Tables} {x tail : Pattern} {xs : List Pattern} → n ≤ 400 → Again (n + 1) z s (pattern_text z x) (PatternReads s x u) → EndAgain n z u xs tail o
       → ListAgain n z s (joined_pattern (x ∷ xs) tail) o
-  heads_form {s = s} {o = o} {x = x} {tail = tail} {xs = xs} shallow a e =
-      let texts = texts_of (map (pattern_part z) e.heads) in
-      let close = list_end (pattern_part z e.end) in
-      let is : joined_pattern (x ∷ xs) tail ≡ p.List (x ∷ e.heads) e.end = e.joins (x ∷ []) in
+  heads_form {s = s} {o = o} {x = x} {tail = tail} {xs = xs} shallow a behind =
+      let texts = texts_of (map (pattern_part z) behind.heads) in
+      let close = list_end (pattern_part z behind.end) in
+      let is : joined_pattern (x ∷ xs) tail ≡ p.List (x ∷ behind.heads) behind.end = behind.joins (x ∷ []) in
       record {
         again = record {
-          piece = same_text (sym (ap (pattern_text z) is ∙ ap (λ (y : Part). y.text) (forms.pattern-List z (x ∷ e.heads) e.end))) (both (opened (t.Word w.OpenList) ((shallow, tt), tt)) (first_part texts close (deeper a.piece) e.again.piece));
+          piece = same_text (sym (ap (pattern_text z) is ∙ ap (λ (y : Part). y.text) (forms.pattern-List z (x ∷ behind.heads) behind.end))) (opened (t.Word w.OpenList) ((shallow, tt), tt) ▷ first_part texts close (deeper a.piece) behind.again.piece);
           reads = λ k r. (
             refl,
-            λ after. subst (λ (y : Pattern). IsPattern k s (at k (t.Word w.OpenList) ∷ a.piece.front (k + 1) (e.again.piece.front k r)) y o r) (e.simple (x ∷ e.heads) ∙ sym is)
-                (pats.list (pats.heads ((a.reads (k + 1) (e.again.piece.front k r)).1 (e.again.reads k r).0) (e.again.reads k r).1)),
+            λ after. subst (λ (y : Pattern). IsPattern k s (at k (t.Word w.OpenList) ∷ a.piece.front (k + 1) (behind.again.piece.front k r)) y o r) (behind.simple (x ∷ behind.heads) ∙ sym is)
+                (pats.list (pats.heads ((a.reads (k + 1) (behind.again.piece.front k r)).1 (behind.again.reads k r).0) (behind.again.reads k r).1)),
           );
           keeps = a.keeps;
         };
         end = record {
-          heads = x ∷ e.heads;
-          end = e.end;
-          joins = λ ys. ap (joined_pattern (ys ++ [])) is ∙ ap (joined_at (ys ++ []) (p.List (x ∷ e.heads) e.end)) (views.outs-List (x ∷ e.heads) e.end) ∙ ap (λ (k : List Pattern). p.List (k ++ x ∷ e.heads) e.end) (append-nil ys);
-          simple = e.simple;
+          heads = x ∷ behind.heads;
+          end = behind.end;
+          joins = λ ys. ap (joined_pattern (ys ++ [])) is ∙ ap (joined_at (ys ++ []) (p.List (x ∷ behind.heads) behind.end)) (views.outs-List (x ∷ behind.heads) behind.end) ∙ ap (λ (k : List Pattern). p.List (k ++ x ∷ behind.heads) behind.end) (append-nil ys);
+          simple = behind.simple;
           again = record {
-            piece = next_part texts close (deeper a.piece) e.again.piece;
-            reads = λ k r. (refl, pats.next_head ((a.reads (k + 1) (e.again.piece.front k r)).1 (e.again.reads k r).0) (e.again.reads k r).1);
+            piece = next_part texts close (deeper a.piece) behind.again.piece;
+            reads = λ k r. (refl, pats.next_head ((a.reads (k + 1) (behind.again.piece.front k r)).1 (behind.again.reads k r).0) (behind.again.reads k r).1);
             keeps = a.keeps;
           };
         };
@@ -151,14 +151,14 @@ module _ {z : Module} where
 
   -- one more head
   next_head : {n : ℕ} {s u o : Tables} {x tail : Pattern} {xs : List Pattern} → Again (n + 1) z s (pattern_text z x) (PatternReads s x u) → EndAgain n z u xs tail o → EndAgain n z s (x ∷ xs) tail o
-  next_head {x = x} {tail = tail} {xs = xs} a e = record {
-    heads = x ∷ e.heads;
-    end = e.end;
-    joins = λ ys. ap (λ (k : List Pattern). joined_pattern k tail) (sym (append_assoc ys (x ∷ []) xs)) ∙ e.joins (ys ++ x ∷ []) ∙ ap (λ (k : List Pattern). p.List k e.end) (append_assoc ys (x ∷ []) e.heads);
-    simple = e.simple;
+  next_head {x = x} {tail = tail} {xs = xs} a behind = record {
+    heads = x ∷ behind.heads;
+    end = behind.end;
+    joins = λ ys. ap (λ (k : List Pattern). joined_pattern k tail) (sym (append_assoc ys (x ∷ []) xs)) ∙ behind.joins (ys ++ x ∷ []) ∙ ap (λ (k : List Pattern). p.List k behind.end) (append_assoc ys (x ∷ []) behind.heads);
+    simple = behind.simple;
     again = record {
-      piece = next_part (texts_of (map (pattern_part z) e.heads)) (list_end (pattern_part z e.end)) (deeper a.piece) e.again.piece;
-      reads = λ k r. (refl, pats.next_head ((a.reads (k + 1) (e.again.piece.front k r)).1 (e.again.reads k r).0) (e.again.reads k r).1);
+      piece = next_part (texts_of (map (pattern_part z) behind.heads)) (list_end (pattern_part z behind.end)) (deeper a.piece) behind.again.piece;
+      reads = λ k r. (refl, pats.next_head ((a.reads (k + 1) (behind.again.piece.front k r)).1 (behind.again.reads k r).0) (behind.again.reads k r).1);
       keeps = a.keeps;
     };
   }
@@ -169,7 +169,7 @@ module _ {z : Module} where
       form (forms.pattern-Str z (b ∷ bs)) (λ xs. ap (joined_at xs (p.Str (b ∷ bs))) (views.outs-Str (b ∷ bs))) (opened (t.Str (b ∷ bs)) is) (λ k r. refl) (λ k r after. pats.string (b ∷ bs)) keeps
 
   mutual
-    pattern_again : {n : ℕ} {s u : Tables} {ms q : List Marked} {x : Pattern} → IsPattern n s ms x u q → Keeps u z → AreFine ms → PatternAgain n z s x u
+    pub pattern_again : {n : ℕ} {s u : Tables} {ms q : List Marked} {x : Pattern} → IsPattern n s ms x u q → Keeps u z → AreFine ms → PatternAgain n z s x u
     pattern_again (pats.integer sign digits) keeps f = integer_form _ f.0.0.0 (integer_spelled sign (value digits) f.0.0.1) keeps
     pattern_again (pats.character code) keeps f = integer_form _ f.0.0.0 (character_spelled code f.0.1) keeps
     pattern_again {s = s} (pats.atom text) keeps f =
@@ -183,13 +183,13 @@ module _ {z : Module} where
         let b = as_pattern (pattern_again d2 keeps (aliased_left d1 f).1) in
         let a = aliased_again d1 b.keeps f in
         form (forms.pattern-Alias z v x) (λ xs. ap (joined_at xs (p.Alias v x)) (views.outs-Alias v x))
-        (both (both a.piece (one_word w.Equals)) (deeper b.piece))
+        (a.piece ▷ one_word w.Equals ▷ deeper b.piece)
         (λ k r. (a.reads k (word w.Equals ∷ b.piece.front (k + 1) r)).0)
         (λ k r after. pats.alias (a.reads k (word w.Equals ∷ b.piece.front (k + 1) r)).1 ((b.reads (k + 1) r).1 after)) a.keeps
     pattern_again (pats.tuple {xs = xs} d) keeps f =
         let a = patterns_again refl d keeps f.1 in
         form (forms.pattern-Tuple z xs) (λ ys. ap (joined_at ys (p.Tuple xs)) (views.outs-Tuple xs))
-        (both (opened (t.Word w.OpenTuple) f.0) (deeper a.piece)) (λ k r. refl) (λ k r after. pats.tuple (a.reads (k + 1) r)) a.keeps
+        (opened (t.Word w.OpenTuple) f.0 ▷ deeper a.piece) (λ k r. refl) (λ k r after. pats.tuple (a.reads (k + 1) r)) a.keeps
     pattern_again (pats.list d) keeps f = list (pattern_list_again d keeps f.1 f.0.0.0)
     pattern_again (pats.noted d end before) keeps f = pattern_no_deeper (pattern_again d keeps f.1)
 
@@ -220,14 +220,14 @@ module _ {z : Module} where
     pattern_list_again : {n : ℕ} {s u : Tables} {ms q : List Marked} {x : Pattern} → IsPatternList n s ms x u q → Keeps u z → AreFine ms → n ≤ 400 → ListAgain n z s x u
     pattern_list_again pats.nil keeps f shallow = nil_form shallow keeps
     pattern_list_again (pats.heads d more) keeps f shallow =
-        let e = pattern_end_again more keeps (pattern_left d f) shallow in
-        heads_form shallow (as_pattern (pattern_again d e.again.keeps f)) e
+        let behind = pattern_end_again more keeps (pattern_left d f) shallow in
+        heads_form shallow (as_pattern (pattern_again d behind.again.keeps f)) behind
 
     pattern_end_again : {n : ℕ} {s u : Tables} {ms q : List Marked} {xs : List Pattern} {tail : Pattern} → IsPatternEnd n s ms xs tail u q → Keeps u z → AreFine ms → n ≤ 400 → EndAgain n z s xs tail u
     pattern_end_again pats.closed keeps f shallow = (nil_form shallow keeps).end
     pattern_end_again (pats.next_head d more) keeps f shallow =
-        let e = pattern_end_again more keeps (pattern_left d f.1) shallow in
-        next_head (as_pattern (pattern_again d e.again.keeps f.1)) e
+        let behind = pattern_end_again more keeps (pattern_left d f.1) shallow in
+        next_head (as_pattern (pattern_again d behind.again.keeps f.1)) behind
     pattern_end_again (pats.tail d) keeps f shallow = pattern_tail_again d keeps f.1 shallow
 
     pattern_tail_again : {n : ℕ} {s u : Tables} {ms q : List Marked} {x : Pattern} → IsPatternTail n s ms x u q → Keeps u z → AreFine ms → n ≤ 400 → EndAgain n z s [] x u

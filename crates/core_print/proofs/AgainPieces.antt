@@ -26,8 +26,10 @@ one_word k = one (word k) ((omega arith, tt), tt)
 abbrev pub opened : {n : ℕ} (k : Token) → IsFine (at n k) → Piece n (token (token_text k))
 opened k is = record { front = λ j r. at j k ∷ r; spells = λ j r. refl; fine = λ j le r f. (((omega arith, is.0.1), is.1), f) }
 
-abbrev pub both : {n : ℕ} {a b : List ℕ} → Piece n a → Piece n b → Piece n (a ++ b)
-both {a = a} {b = b} p q = record {
+-- one piece before another
+infixl 65 ◌▷◌
+abbrev pub ◌▷◌ : {n : ℕ} {a b : List ℕ} → Piece n a → Piece n b → Piece n (a ++ b)
+◌▷◌ {a = a} {b = b} p q = record {
   front = λ k r. p.front k (q.front k r);
   spells = λ k r. p.spells k (q.front k r) ∙ ap (λ (x : List ℕ). a ++ x) (q.spells k r) ∙ sym (append_assoc a b (spaced r));
   fine = λ k le r f. p.fine k le (q.front k r) (q.fine k le r f);
@@ -47,7 +49,7 @@ same_text e p = record { front = p.front; spells = λ k r. p.spells k r ∙ ap (
 
 -- a piece before one of two texts
 abbrev pub before : {n : ℕ} {a : List ℕ} (b c : List ℕ) → Piece n a → Piece n (b ++ c) → Piece n ((a ++ b) ++ c)
-before {a = a} b c p q = same_text (sym (append_assoc a b c)) (both p q)
+before {a = a} b c p q = same_text (sym (append_assoc a b c)) (p ▷ q)
 
 -- a part in front of others with commas between them, and what closes them
 module _ {n : ℕ} {a : List ℕ} (texts : List (List ℕ)) (close : List ℕ) (p : Piece n a) where
@@ -55,7 +57,7 @@ module _ {n : ℕ} {a : List ℕ} (texts : List (List ℕ)) (close : List ℕ) (
   first_part q = before (after_commas texts) close p q
 
   abbrev pub next_part : Piece n (after_commas texts ++ close) → Piece n (after_commas (a ∷ texts) ++ close)
-  next_part q = both (one_word w.Comma) (first_part q)
+  next_part q = one_word w.Comma ▷ first_part q
 
   abbrev pub another_part : Piece n (one_after_another texts ++ close) → Piece n (one_after_another (a ∷ texts) ++ close)
   another_part q = before (one_after_another texts) close p q

@@ -14,7 +14,7 @@ use Rattle.hy_core.specs.declared.tables.Tables.{Tables}
 use Rattle.hy_core.specs.declared.tree.Module.{Module}
 use Rattle.core_print.proofs.Spelling.{word_text, AreFine}
 use Rattle.core_print.proofs.Tables.{Keeps, before_variable, variable_kept}
-use Rattle.core_print.proofs.AgainPieces.{Piece, one, one_word, opened, both, same_text, first_part, next_part}
+use Rattle.core_print.proofs.AgainPieces.{Piece, one, one_word, opened, ◌▷◌, same_text, first_part, next_part}
 use Rattle.core_print.proofs.AgainLeft.{variable_left, more_variables_left}
 use Rattle.core_print.proofs.AgainStarts.{IsItem, Again, again_no_deeper}
 
@@ -56,12 +56,12 @@ module _ {z : Module} where
   binding_again (pats.one {v = v} d) keeps f =
       let a = variable_again d keeps f in
       record {
-        piece = both (one_word w.Less) (first_part [] (token (word_text w.Greater)) a.piece (one_word w.Greater));
+        piece = one_word w.Less ▷ first_part [] (token (word_text w.Greater)) a.piece (one_word w.Greater);
         reads = λ k r. pats.many (pats.some (a.reads k (word w.Greater ∷ r)) pats.no_more);
         keeps = a.keeps;
       }
   binding_again (pats.many d) keeps f =
-      let a = variables_again d keeps f.1 in record { piece = both (one_word w.Less) a.piece; reads = λ k r. pats.many (a.reads k r); keeps = a.keeps }
+      let a = variables_again d keeps f.1 in record { piece = one_word w.Less ▷ a.piece; reads = λ k r. pats.many (a.reads k r); keeps = a.keeps }
 
   pub aliased_again : {n : ℕ} {s u : Tables} {ms q : List Marked} {v : ℕ} → IsAliased n s ms v u q → Keeps u z → AreFine ms
       → Again n z s (variable_text z v) (λ k ms r. IsItem ms × IsAliased k s ms v u r)

@@ -1,4 +1,6 @@
+pub mod AgainExprs
 pub mod AgainLeft
+pub mod AgainLists
 pub mod AgainNames
 pub mod AgainPatterns
 pub mod AgainPieces
