@@ -5,11 +5,10 @@ use Rattle.std.specs.Fmt.{decimal}
 use Rattle.hy_core.specs.Marks.{Marked, at, word, value, arity}
 use Rattle.hy_core.specs.Numbering.{atom_number, with_atom, variable_number}
 use Rattle.hy_core.specs.Annotations as notes
-use Rattle.hy_core.specs.Annotations.{IsName}
 use Rattle.hy_core.specs.Patterns as pats
 use Rattle.hy_core.specs.Expressions as exprs
 use Rattle.hy_core.specs.Expressions.{named_by, function, clause_of, joined_at, IsExpr, AreExprs, AreMoreExprs, IsList, IsListEnd, IsTail, IsClause, AreClauses, IsFunction, AreFunctions}
-use Rattle.hy_core.specs.Canonical.{Part, token, after_commas, with_commas, one_after_another, texts_of, variables_text, fun_text, pattern_part, expr_part, expr_text, clause_text, function_text}
+use Rattle.hy_core.specs.Canonical.{token, after_commas, with_commas, one_after_another, texts_of, variables_text, fun_text, pattern_part, expr_part, expr_text, clause_text, function_text}
 use Rattle.hy_core.specs.declared.token.Word.{Word}
 use Rattle.hy_core.specs.declared.token.Word.TheVariants as w
 use Rattle.hy_core.specs.declared.token.Token.TheVariants as t
@@ -32,7 +31,7 @@ use Rattle.core_print.proofs.AgainStarts.{is_apart, IsApart, no_slash, Again, ag
 use Rattle.core_print.proofs.AgainNames.{IsFineName, atom_bytes, fine_name, arity_again, arity_piece, atom_spelled, atom_piece, name_piece}
 use Rattle.core_print.proofs.AgainVariables.{variables_again, binding_again}
 use Rattle.core_print.proofs.AgainPatterns.{as_pattern, pattern_again, patterns_again}
-use Rattle.core_print.proofs.AgainLists.{EndAgain, ListAgain, ExprAgain, list, ExprReads, as_expr, as_tail, expr_no_deeper, form, integer_form, nil_form, heads_form, next_head, string_form}
+use Rattle.core_print.proofs.AgainLists.{EndAgain, ListAgain, ExprAgain, list, as_expr, as_tail, expr_no_deeper, form, integer_form, nil_form, heads_form, next_head, string_form}
 
 module _ (z : Module) where
   abbrev expr_texts : List Expr → List (List ℕ)
@@ -58,7 +57,7 @@ module _ {z : Module} where
       same_text (sym (forms.function_text-is z (function (named_by (atom_number s text) ds) vs x))) (name_piece s text keeps is ▷ one_word w.Equals ▷ p)
 
   mutual
-    pub expr_again : {n : ℕ} {s u : Tables} {ms q : List Marked} {x : Expr} → IsExpr n s ms x u q → Keeps u z → AreFine ms → ExprAgain n z s x u
+    expr_again : {n : ℕ} {s u : Tables} {ms q : List Marked} {x : Expr} → IsExpr n s ms x u q → Keeps u z → AreFine ms → ExprAgain n z s x u
     expr_again (exprs.integer sign digits) keeps f = integer_form _ f.0.0.0 (integer_spelled sign (value digits) f.0.0.1) keeps
     expr_again (exprs.character code) keeps f = integer_form _ f.0.0.0 (character_spelled code f.0.1) keeps
     expr_again {s = s} (exprs.atom text after) keeps f =
@@ -306,11 +305,12 @@ module _ {z : Module} where
         let f2 = (name_left d1 f).1 in
         let b = functions_again more keeps (function_left d2 f2) in
         let a = function_again d2 b.keeps f2 in
+        let p = another_part (map (function_text z) fs) (codes " in") (function_piece s text ds vs x is a.keeps a.piece) b.piece in
         record {
-          piece = another_part (map (function_text z) fs) (codes " in") (function_piece s text ds vs x is a.keeps a.piece) b.piece;
+          piece = p;
           reads = λ k r. (
             refl,
-            subst (λ (g : FunName). AreFunctions k s ((function_piece s text ds vs x is a.keeps a.piece).front k (b.piece.front k r)) (function g vs x ∷ fs) o r) (arity_again (atom_number s text) is)
+            subst (λ (g : FunName). AreFunctions k s (p.front k r) (function g vs x ∷ fs) o r) (arity_again (atom_number s text) is)
                 (exprs.some_functions (notes.name text (decimal (value ds))) (a.reads k (b.piece.front k r) (b.reads k r).0) (b.reads k r).1),
           );
           keeps = before_atom s text a.keeps;

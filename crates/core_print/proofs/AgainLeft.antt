@@ -50,7 +50,7 @@ mutual
   constant_tail_left (notes.list_tail d) f = constant_list_left d f.1
   constant_tail_left (notes.other_tail never d) f = constant_left d f
 
-pub note_left : {n : ℕ} {ms q : List Marked} → IsNote n ms q → AreFine ms → AreFine q
+note_left : {n : ℕ} {ms q : List Marked} → IsNote n ms q → AreFine ms → AreFine q
 note_left (notes.note d) f = (constants_left d f.1.1).1
 
 pub atom_left : {n : ℕ} {ms q : List Marked} {text : List ℕ} → IsAtom n ms text q → AreFine ms → AreFine q
@@ -79,7 +79,7 @@ pub variable_left : {n : ℕ} {s u : Tables} {ms q : List Marked} {v : ℕ} → 
 variable_left (pats.variable name) f = f.1
 variable_left (pats.noted d end) f = note_left end (variable_left d f.1)
 
-pub more_variables_left : {n : ℕ} {close : Word} {s u : Tables} {ms q : List Marked} {vs : List ℕ} → AreMoreVariables n close s ms vs u q → AreFine ms → AreFine q
+more_variables_left : {n : ℕ} {close : Word} {s u : Tables} {ms q : List Marked} {vs : List ℕ} → AreMoreVariables n close s ms vs u q → AreFine ms → AreFine q
 more_variables_left pats.no_more f = f.1
 more_variables_left (pats.one_more d more) f = more_variables_left more (variable_left d f.1)
 
@@ -111,7 +111,7 @@ mutual
   patterns_left pats.no_patterns f = f.1
   patterns_left (pats.some_patterns d more) f = more_patterns_left more (pattern_left d f)
 
-  pub more_patterns_left : {n : ℕ} {close : Word} {s u : Tables} {ms q : List Marked} {xs : List Pattern} → AreMorePatterns n close s ms xs u q → AreFine ms → AreFine q
+  more_patterns_left : {n : ℕ} {close : Word} {s u : Tables} {ms q : List Marked} {xs : List Pattern} → AreMorePatterns n close s ms xs u q → AreFine ms → AreFine q
   more_patterns_left pats.no_more f = f.1
   more_patterns_left (pats.one_more d more) f = more_patterns_left more (pattern_left d f.1)
 
@@ -119,7 +119,7 @@ mutual
   pattern_list_left pats.nil f = f.1
   pattern_list_left (pats.heads d more) f = pattern_end_left more (pattern_left d f)
 
-  pub pattern_end_left : {n : ℕ} {s u : Tables} {ms q : List Marked} {xs : List Pattern} {tail : Pattern} → IsPatternEnd n s ms xs tail u q → AreFine ms → AreFine q
+  pattern_end_left : {n : ℕ} {s u : Tables} {ms q : List Marked} {xs : List Pattern} {tail : Pattern} → IsPatternEnd n s ms xs tail u q → AreFine ms → AreFine q
   pattern_end_left pats.closed f = f.1
   pattern_end_left (pats.next_head d more) f = pattern_end_left more (pattern_left d f.1)
   pattern_end_left (pats.tail d) f = (pattern_tail_left d f.1).1
@@ -198,7 +198,7 @@ pub export_left : {n : ℕ} {s u : Tables} {ms q : List Marked} {xs : List FunNa
 export_left (mods.kept d never) f = name_left d f
 export_left (mods.dropped d is) f = name_left d f
 
-pub more_exports_left : {n : ℕ} {close : Word} {s u : Tables} {ms q : List Marked} {xs : List FunName} → AreMoreExports n close s ms xs u q → AreFine ms → AreFine q
+more_exports_left : {n : ℕ} {close : Word} {s u : Tables} {ms q : List Marked} {xs : List FunName} → AreMoreExports n close s ms xs u q → AreFine ms → AreFine q
 more_exports_left mods.no_more f = f.1
 more_exports_left (mods.one_more d more) f = more_exports_left more (export_left d f.1)
 

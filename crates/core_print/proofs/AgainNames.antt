@@ -1,5 +1,5 @@
 -- Atoms and names of functions are read again from their canonical tokens.
-use Rattle.std.proofs.Common.{◌≡◌, ℕ, ◌+◌, ◌≤◌, pos, List, ◌++◌, codes, sym, ap, arith}
+use Rattle.std.proofs.Common.{◌≡◌, ℕ, ◌≤◌, pos, List, sym, ap, arith}
 use Rattle.std.specs.Fmt.{decimal}
 use Rattle.hy_terms.specs.Texts.{int_text, atom_text}
 use Rattle.hy_core.specs.Marks.{Marked, plain, arity, value}

@@ -1,12 +1,11 @@
 -- Patterns are read again from their canonical tokens.
-use Rattle.std.proofs.Common.{◌≡◌, ℕ, ◌+◌, ◌≤◌, ℤ, pos, Bool, true, false, List, [], ◌∷◌, ◌++◌, codes, map, refl, sym, ap, subst, ◌∙◌, arith}
+use Rattle.std.proofs.Common.{◌≡◌, ℕ, ◌+◌, ◌≤◌, ℤ, true, false, List, [], ◌∷◌, ◌++◌, map, refl, sym, ap, subst, ◌∙◌}
 use Rattle.std.proofs.lemmas.List.{append_assoc, append-nil}
-use Rattle.hy_terms.specs.Texts.{quoted}
 use Rattle.hy_core.specs.Marks.{Marked, at, word, value}
-use Rattle.hy_core.specs.Numbering.{atom_number, with_atom}
+use Rattle.hy_core.specs.Numbering.{atom_number}
 use Rattle.hy_core.specs.Patterns as pats
 use Rattle.hy_core.specs.Patterns.{joined_at, joined_pattern, IsPattern, ArePatterns, AreMorePatterns, IsPatternList, IsPatternEnd, IsPatternTail}
-use Rattle.hy_core.specs.Canonical.{Part, part, token, after_commas, with_commas, texts_of, list_end, pattern_part, pattern_text, variable_text}
+use Rattle.hy_core.specs.Canonical.{Part, part, token, after_commas, with_commas, texts_of, list_end, pattern_part, pattern_text}
 use Rattle.hy_core.specs.declared.token.Word.{Word}
 use Rattle.hy_core.specs.declared.token.Word.TheVariants as w
 use Rattle.hy_core.specs.declared.token.Token.TheVariants as t
@@ -20,8 +19,8 @@ use Rattle.core_print.proofs.Numbers.{IsSpelled, integer_spelled, character_spel
 use Rattle.core_print.proofs.Tables.{Keeps, before_atom, before_variable, variable_kept}
 use Rattle.core_print.proofs.ListEnd.{list_end-nil, list_end-other}
 use Rattle.core_print.proofs.CanonicalForms as forms
-use Rattle.core_print.proofs.AgainPieces.{Piece, one_word, opened, ◌▷◌, deeper, no_deeper, same_text, first_part, next_part}
-use Rattle.core_print.proofs.AgainLeft.{pattern_left, more_patterns_left, aliased_left, pattern_end_left}
+use Rattle.core_print.proofs.AgainPieces.{Piece, one_word, opened, ◌▷◌, deeper, same_text, first_part, next_part}
+use Rattle.core_print.proofs.AgainLeft.{pattern_left, aliased_left}
 use Rattle.core_print.proofs.AgainStarts.{is_apart, IsApart, IsItem, apart_item, no_equals, no_list, Again, again_no_deeper}
 use Rattle.core_print.proofs.AgainNames.{atom_spelled}
 use Rattle.core_print.proofs.AgainVariables.{aliased_again}

@@ -1,12 +1,11 @@
 -- Pieces of canonical tokens, put before any others, with their text.
-use Rattle.std.proofs.Common.{◌≡◌, ℕ, ◌+◌, ◌≤◌, List, [], ◌∷◌, ◌++◌, refl, sym, ap, ◌∙◌, arith}
+use Rattle.std.proofs.Common.{◌≡◌, ℕ, ◌+◌, ◌≤◌, List, ◌∷◌, ◌++◌, refl, sym, ap, ◌∙◌, arith}
 use Rattle.std.proofs.lemmas.List.{append_assoc}
-use Rattle.hy_core.specs.Marks.{Marked, at, plain, word}
+use Rattle.hy_core.specs.Marks.{Marked, at, word}
 use Rattle.hy_core.specs.Canonical.{token, after_commas, with_commas, one_after_another}
 use Rattle.hy_core.specs.declared.token.Word.{Word}
 use Rattle.hy_core.specs.declared.token.Word.TheVariants as w
 use Rattle.hy_core.specs.declared.token.Token.{Token}
-use Rattle.hy_core.specs.declared.token.Token.TheVariants as t
 use Rattle.core_print.proofs.Spelling.{token_text, word_text, spaced, IsFine, AreFine}
 
 -- tokens of this text by their level, which are fine at levels up to n

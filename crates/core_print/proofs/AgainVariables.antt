@@ -1,12 +1,9 @@
 -- Names and variables are read again from their canonical tokens.
-use Rattle.std.proofs.Common.{◌≡◌, ℕ, ◌+◌, List, [], ◌∷◌, ◌++◌, codes, map, refl, sym, ap}
-use Rattle.hy_core.specs.Marks.{Marked, at, plain, word, arity, value}
-use Rattle.hy_core.specs.Numbering.{atom_number, with_atom}
-use Rattle.hy_core.specs.Annotations as notes
-use Rattle.hy_core.specs.Annotations.{IsAtom, IsName}
+use Rattle.std.proofs.Common.{ℕ, List, [], ◌∷◌, ◌++◌, map, refl, sym, ap}
+use Rattle.hy_core.specs.Marks.{Marked, plain, word}
 use Rattle.hy_core.specs.Patterns as pats
 use Rattle.hy_core.specs.Patterns.{IsVariable, AreVariables, AreMoreVariables, BindsValues, IsAliased}
-use Rattle.hy_core.specs.Canonical.{token, after_commas, with_commas, variable_text, variables_text, binding_text}
+use Rattle.hy_core.specs.Canonical.{token, after_commas, variable_text, variables_text, binding_text}
 use Rattle.hy_core.specs.declared.token.Word.{Word}
 use Rattle.hy_core.specs.declared.token.Word.TheVariants as w
 use Rattle.hy_core.specs.declared.token.Token.TheVariants as t
@@ -14,8 +11,8 @@ use Rattle.hy_core.specs.declared.tables.Tables.{Tables}
 use Rattle.hy_core.specs.declared.tree.Module.{Module}
 use Rattle.core_print.proofs.Spelling.{word_text, AreFine}
 use Rattle.core_print.proofs.Tables.{Keeps, before_variable, variable_kept}
-use Rattle.core_print.proofs.AgainPieces.{Piece, one, one_word, opened, ◌▷◌, same_text, first_part, next_part}
-use Rattle.core_print.proofs.AgainLeft.{variable_left, more_variables_left}
+use Rattle.core_print.proofs.AgainPieces.{one, one_word, opened, ◌▷◌, same_text, first_part, next_part}
+use Rattle.core_print.proofs.AgainLeft.{variable_left}
 use Rattle.core_print.proofs.AgainStarts.{IsItem, Again, again_no_deeper}
 
 module _ {z : Module} where

@@ -1,6 +1,7 @@
 pub mod AgainExprs
 pub mod AgainLeft
 pub mod AgainLists
+pub mod AgainModule
 pub mod AgainNames
 pub mod AgainPatterns
 pub mod AgainPieces
