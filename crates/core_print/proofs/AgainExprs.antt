@@ -27,7 +27,8 @@ use Rattle.core_print.proofs.Tables.{Keeps, before_atom, before_variable, variab
 use Rattle.core_print.proofs.CanonicalForms as forms
 use Rattle.core_print.proofs.AgainPieces.{Piece, one_word, opened, ◌▷◌, before, deeper, same_text, first_part, next_part, another_part}
 use Rattle.core_print.proofs.AgainLeft.{atom_left, name_left, binding_left, variables_left, pattern_left, patterns_left, expr_left, clause_left, clauses_left, function_left, functions_left}
-use Rattle.core_print.proofs.AgainStarts.{is_apart, IsApart, no_slash, Again, again_no_deeper}
+use Rattle.core_print.proofs.AgainStarts.{is_apart, IsApart, no_slash}
+use Rattle.core_print.proofs.AgainParts.{Again, again_no_deeper}
 use Rattle.core_print.proofs.AgainNames.{IsFineName, atom_bytes, fine_name, arity_again, arity_piece, atom_spelled, atom_piece, name_piece}
 use Rattle.core_print.proofs.AgainVariables.{variables_again, binding_again}
 use Rattle.core_print.proofs.AgainPatterns.{as_pattern, pattern_again, patterns_again}

@@ -18,7 +18,8 @@ use Rattle.core_print.proofs.Tables.{Keeps}
 use Rattle.core_print.proofs.ListEnd.{list_end-nil, list_end-other}
 use Rattle.core_print.proofs.CanonicalForms as forms
 use Rattle.core_print.proofs.AgainPieces.{Piece, one_word, opened, ◌▷◌, deeper, same_text, first_part, next_part}
-use Rattle.core_print.proofs.AgainStarts.{IsApart, IsItem, apart_item, no_list, Again, again_no_deeper}
+use Rattle.core_print.proofs.AgainStarts.{IsApart, IsItem, apart_item, no_list}
+use Rattle.core_print.proofs.AgainParts.{Again, again_no_deeper}
 
 -- an expression is read before what goes on no name
 abbrev pub ExprReads : Tables → Expr → Tables → ℕ → List Marked → List Marked → Type 0
@@ -46,7 +47,7 @@ pub data ExprAgain (n : ℕ) (z : Module) (s : Tables) (x : Expr) (u : Tables) :
   item : IsNoList z x → (a : Again n z s (expr_text z x) (ExprReads s x u)) → ((k : ℕ) (r : List Marked) → IsItem (a.piece.front k r)) → ExprAgain n z s x u
   list : ListAgain n z s x u → ExprAgain n z s x u
 
--- what begins no list notation is the tail of one
+-- a tail that begins no list notation
 other_tail : {k : ℕ} {s u : Tables} {x : Expr} {ms r : List Marked} → IsItem ms → IsExpr (k + 1) s ms x u r → IsTail k s ms x u r
 other_tail {ms = []} is d = absurd is
 other_tail {ms = m ∷ ms} is d = exprs.other_tail (no_list m is) d
@@ -113,10 +114,25 @@ module _ {z : Module} where
         };
       }
 
+  -- one more head
+  abbrev pub next_head : {n : ℕ} {s u o : Tables} {x tail : Expr} {xs : List Expr} → Again (n + 1) z s (expr_text z x) (ExprReads s x u) → EndAgain n z u xs tail o → EndAgain n z s (x ∷ xs) tail o
+  next_head {x = x} {tail = tail} {xs = xs} a behind = record {
+    heads = x ∷ behind.heads;
+    end = behind.end;
+    joins = λ ys. ap (λ (k : List Expr). joined k tail) (sym (append_assoc ys (x ∷ []) xs)) ∙ behind.joins (ys ++ x ∷ []) ∙ ap (λ (k : List Expr). e.List 0 k behind.end) (append_assoc ys (x ∷ []) behind.heads);
+    simple = behind.simple;
+    again = record {
+      piece = next_part (texts_of (map (expr_part z) behind.heads)) (list_end (expr_part z behind.end)) (deeper a.piece) behind.again.piece;
+      reads = λ k r. (refl, exprs.next_head ((a.reads (k + 1) (behind.again.piece.front k r)).1 (behind.again.reads k r).0) (behind.again.reads k r).1);
+      keeps = a.keeps;
+    };
+  }
+
   -- a list notation of this head and what is behind it
   pub heads_form : {n : ℕ} {s u o : Tables} {x tail : Expr} {xs : List Expr} → n ≤ 400 → Again (n + 1) z s (expr_text z x) (ExprReads s x u) → EndAgain n z u xs tail o
       → ListAgain n z s (joined (x ∷ xs) tail) o
   heads_form {s = s} {o = o} {x = x} {tail = tail} {xs = xs} shallow a behind =
+      let more = next_head a behind in
       let texts = texts_of (map (expr_part z) behind.heads) in
       let close = list_end (expr_part z behind.end) in
       let is : joined (x ∷ xs) tail ≡ e.List 0 (x ∷ behind.heads) behind.end = behind.joins (x ∷ []) in
@@ -131,31 +147,13 @@ module _ {z : Module} where
           keeps = a.keeps;
         };
         end = record {
-          heads = x ∷ behind.heads;
-          end = behind.end;
+          heads = more.heads;
+          end = more.end;
           joins = λ ys. ap (joined (ys ++ [])) is ∙ ap (joined_at (ys ++ []) (e.List 0 (x ∷ behind.heads) behind.end)) (views.outs-List 0 (x ∷ behind.heads) behind.end) ∙ ap (λ (k : List Expr). e.List 0 (k ++ x ∷ behind.heads) behind.end) (append-nil ys);
-          simple = behind.simple;
-          again = record {
-            piece = next_part texts close (deeper a.piece) behind.again.piece;
-            reads = λ k r. (refl, exprs.next_head ((a.reads (k + 1) (behind.again.piece.front k r)).1 (behind.again.reads k r).0) (behind.again.reads k r).1);
-            keeps = a.keeps;
-          };
+          simple = more.simple;
+          again = more.again;
         };
       }
-
-  -- one more head
-  pub next_head : {n : ℕ} {s u o : Tables} {x tail : Expr} {xs : List Expr} → Again (n + 1) z s (expr_text z x) (ExprReads s x u) → EndAgain n z u xs tail o → EndAgain n z s (x ∷ xs) tail o
-  next_head {x = x} {tail = tail} {xs = xs} a behind = record {
-    heads = x ∷ behind.heads;
-    end = behind.end;
-    joins = λ ys. ap (λ (k : List Expr). joined k tail) (sym (append_assoc ys (x ∷ []) xs)) ∙ behind.joins (ys ++ x ∷ []) ∙ ap (λ (k : List Expr). e.List 0 k behind.end) (append_assoc ys (x ∷ []) behind.heads);
-    simple = behind.simple;
-    again = record {
-      piece = next_part (texts_of (map (expr_part z) behind.heads)) (list_end (expr_part z behind.end)) (deeper a.piece) behind.again.piece;
-      reads = λ k r. (refl, exprs.next_head ((a.reads (k + 1) (behind.again.piece.front k r)).1 (behind.again.reads k r).0) (behind.again.reads k r).1);
-      keeps = a.keeps;
-    };
-  }
 
   pub string_form : {n : ℕ} {s : Tables} (text : List ℕ) → IsFine (at n (t.Str text)) → Keeps s z → ExprAgain n z s (exprs.string_expr text) s
   string_form [] is keeps = list (nil_form is.0.0 keeps)

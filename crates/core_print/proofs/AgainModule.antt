@@ -20,7 +20,8 @@ use Rattle.core_print.proofs.Spelling.{word_text, spaced, AreFine}
 use Rattle.core_print.proofs.Tables.{Keeps, before_atom}
 use Rattle.core_print.proofs.AgainPieces.{one_word, opened, ◌▷◌, before, deeper, same_text, first_part, next_part, another_part}
 use Rattle.core_print.proofs.AgainLeft.{name_left, function_left, export_left, exports_left, attributes_left}
-use Rattle.core_print.proofs.AgainStarts.{IsApart, Again, again_no_deeper}
+use Rattle.core_print.proofs.AgainStarts.{IsApart}
+use Rattle.core_print.proofs.AgainParts.{Again, again_no_deeper}
 use Rattle.core_print.proofs.AgainNames.{IsFineName, fine_name, arity_value, arity_again, atom_piece, name_piece}
 use Rattle.core_print.proofs.AgainExprs.{function_piece, function_again}
 

@@ -21,7 +21,8 @@ use Rattle.core_print.proofs.ListEnd.{list_end-nil, list_end-other}
 use Rattle.core_print.proofs.CanonicalForms as forms
 use Rattle.core_print.proofs.AgainPieces.{Piece, one_word, opened, ◌▷◌, deeper, same_text, first_part, next_part}
 use Rattle.core_print.proofs.AgainLeft.{pattern_left, aliased_left}
-use Rattle.core_print.proofs.AgainStarts.{is_apart, IsApart, IsItem, apart_item, no_equals, no_list, Again, again_no_deeper}
+use Rattle.core_print.proofs.AgainStarts.{is_apart, IsApart, IsItem, apart_item, no_equals, no_list}
+use Rattle.core_print.proofs.AgainParts.{Again, again_no_deeper}
 use Rattle.core_print.proofs.AgainNames.{atom_spelled}
 use Rattle.core_print.proofs.AgainVariables.{aliased_again}
 
@@ -51,7 +52,7 @@ pub data PatternAgain (n : ℕ) (z : Module) (s : Tables) (x : Pattern) (u : Tab
   item : IsNoList z x → (a : Again n z s (pattern_text z x) (PatternReads s x u)) → ((k : ℕ) (r : List Marked) → IsItem (a.piece.front k r)) → PatternAgain n z s x u
   list : ListAgain n z s x u → PatternAgain n z s x u
 
--- what begins no list notation is the tail of one
+-- a tail that begins no list notation
 other_tail : {k : ℕ} {s u : Tables} {x : Pattern} {ms r : List Marked} → IsItem ms → IsPattern (k + 1) s ms x u r → IsPatternTail k s ms x u r
 other_tail {ms = []} is d = absurd is
 other_tail {ms = m ∷ ms} is d = pats.other_tail (no_list m is) d
@@ -118,10 +119,25 @@ module _ {z : Module} where
         };
       }
 
+  -- one more head
+  abbrev next_head : {n : ℕ} {s u o : Tables} {x tail : Pattern} {xs : List Pattern} → Again (n + 1) z s (pattern_text z x) (PatternReads s x u) → EndAgain n z u xs tail o → EndAgain n z s (x ∷ xs) tail o
+  next_head {x = x} {tail = tail} {xs = xs} a behind = record {
+    heads = x ∷ behind.heads;
+    end = behind.end;
+    joins = λ ys. ap (λ (k : List Pattern). joined_pattern k tail) (sym (append_assoc ys (x ∷ []) xs)) ∙ behind.joins (ys ++ x ∷ []) ∙ ap (λ (k : List Pattern). p.List k behind.end) (append_assoc ys (x ∷ []) behind.heads);
+    simple = behind.simple;
+    again = record {
+      piece = next_part (texts_of (map (pattern_part z) behind.heads)) (list_end (pattern_part z behind.end)) (deeper a.piece) behind.again.piece;
+      reads = λ k r. (refl, pats.next_head ((a.reads (k + 1) (behind.again.piece.front k r)).1 (behind.again.reads k r).0) (behind.again.reads k r).1);
+      keeps = a.keeps;
+    };
+  }
+
   -- a list notation of this head and what is behind it
   heads_form : {n : ℕ} {s u o : Tables} {x tail : Pattern} {xs : List Pattern} → n ≤ 400 → Again (n + 1) z s (pattern_text z x) (PatternReads s x u) → EndAgain n z u xs tail o
       → ListAgain n z s (joined_pattern (x ∷ xs) tail) o
   heads_form {s = s} {o = o} {x = x} {tail = tail} {xs = xs} shallow a behind =
+      let more = next_head a behind in
       let texts = texts_of (map (pattern_part z) behind.heads) in
       let close = list_end (pattern_part z behind.end) in
       let is : joined_pattern (x ∷ xs) tail ≡ p.List (x ∷ behind.heads) behind.end = behind.joins (x ∷ []) in
@@ -136,31 +152,13 @@ module _ {z : Module} where
           keeps = a.keeps;
         };
         end = record {
-          heads = x ∷ behind.heads;
-          end = behind.end;
+          heads = more.heads;
+          end = more.end;
           joins = λ ys. ap (joined_pattern (ys ++ [])) is ∙ ap (joined_at (ys ++ []) (p.List (x ∷ behind.heads) behind.end)) (views.outs-List (x ∷ behind.heads) behind.end) ∙ ap (λ (k : List Pattern). p.List (k ++ x ∷ behind.heads) behind.end) (append-nil ys);
-          simple = behind.simple;
-          again = record {
-            piece = next_part texts close (deeper a.piece) behind.again.piece;
-            reads = λ k r. (refl, pats.next_head ((a.reads (k + 1) (behind.again.piece.front k r)).1 (behind.again.reads k r).0) (behind.again.reads k r).1);
-            keeps = a.keeps;
-          };
+          simple = more.simple;
+          again = more.again;
         };
       }
-
-  -- one more head
-  next_head : {n : ℕ} {s u o : Tables} {x tail : Pattern} {xs : List Pattern} → Again (n + 1) z s (pattern_text z x) (PatternReads s x u) → EndAgain n z u xs tail o → EndAgain n z s (x ∷ xs) tail o
-  next_head {x = x} {tail = tail} {xs = xs} a behind = record {
-    heads = x ∷ behind.heads;
-    end = behind.end;
-    joins = λ ys. ap (λ (k : List Pattern). joined_pattern k tail) (sym (append_assoc ys (x ∷ []) xs)) ∙ behind.joins (ys ++ x ∷ []) ∙ ap (λ (k : List Pattern). p.List k behind.end) (append_assoc ys (x ∷ []) behind.heads);
-    simple = behind.simple;
-    again = record {
-      piece = next_part (texts_of (map (pattern_part z) behind.heads)) (list_end (pattern_part z behind.end)) (deeper a.piece) behind.again.piece;
-      reads = λ k r. (refl, pats.next_head ((a.reads (k + 1) (behind.again.piece.front k r)).1 (behind.again.reads k r).0) (behind.again.reads k r).1);
-      keeps = a.keeps;
-    };
-  }
 
   string_form : {n : ℕ} {s : Tables} (text : List ℕ) → IsFine (at n (t.Str text)) → Keeps s z → PatternAgain n z s (pats.string_pattern text) s
   string_form [] is keeps = list (nil_form is.0.0 keeps)

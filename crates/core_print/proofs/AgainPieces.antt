@@ -38,7 +38,7 @@ abbrev pub ◌▷◌ : {n : ℕ} {a b : List ℕ} → Piece n a → Piece n b �
 abbrev pub deeper : {n : ℕ} {a : List ℕ} → Piece (n + 1) a → Piece n a
 deeper p = record { front = λ k r. p.front (k + 1) r; spells = λ k r. p.spells (k + 1) r; fine = λ k le r f. p.fine (k + 1) (omega arith) r f }
 
--- also where it may not be so deep
+-- fine at fewer levels too
 abbrev pub no_deeper : {n : ℕ} {a : List ℕ} → Piece (n + 1) a → Piece n a
 no_deeper p = record { front = p.front; spells = p.spells; fine = λ k le r f. p.fine k (omega arith) r f }
 

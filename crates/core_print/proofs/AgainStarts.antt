@@ -1,14 +1,10 @@
--- What the first canonical token of a part is not, and parts that are read again.
-use Rattle.std.proofs.Common.{◌≡◌, ℕ, ◌+◌, Bool, true, false, List, [], ◌∷◌, refl, subst}
+-- What the first canonical token of a part is not.
+use Rattle.std.proofs.Common.{◌≡◌, Bool, true, false, List, [], ◌∷◌, refl, subst}
 use Rattle.hy_core.specs.Marks.{Marked}
 use Rattle.hy_core.specs.Patterns.{IsNotBefore}
 use Rattle.hy_core.specs.declared.token.Word.TheVariants as w
 use Rattle.hy_core.specs.declared.token.Token.{Token}
 use Rattle.hy_core.specs.declared.token.Token.TheVariants as t
-use Rattle.hy_core.specs.declared.tables.Tables.{Tables}
-use Rattle.hy_core.specs.declared.tree.Module.{Module}
-use Rattle.core_print.proofs.AgainPieces.{Piece, no_deeper}
-use Rattle.core_print.proofs.Tables.{Keeps}
 
 -- a token that goes on no name and no alias
 abbrev pub is_apart : Token → Bool
@@ -48,12 +44,3 @@ no_equals (m ∷ ms) h = λ e. let k : false ≡ true = subst (λ (k : Token). i
 
 pub no_list : (m : Marked) → is_item m.token ≡ true → m.token ≡ t.Word w.OpenList → ⊥
 no_list m h e = let k : false ≡ true = subst (λ (k : Token). is_item k ≡ true) e h in absurd cc
-
--- a part of this text, whose canonical tokens are read between these tables and what the module's keep
-pub record Again (n : ℕ) (z : Module) (s : Tables) (text : List ℕ) (Reads : ℕ → List Marked → List Marked → Type 0) : Type 0 where
-  pub piece : Piece n text
-  pub reads : (k : ℕ) (r : List Marked) → Reads k (piece.front k r) r
-  pub keeps : Keeps s z
-
-abbrev pub again_no_deeper : {n : ℕ} {z : Module} {s : Tables} {text : List ℕ} {Reads : ℕ → List Marked → List Marked → Type 0} → Again (n + 1) z s text Reads → Again n z s text Reads
-again_no_deeper a = record { piece = no_deeper a.piece; reads = a.reads; keeps = a.keeps }

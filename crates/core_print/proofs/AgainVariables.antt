@@ -13,7 +13,8 @@ use Rattle.core_print.proofs.Spelling.{word_text, AreFine}
 use Rattle.core_print.proofs.Tables.{Keeps, before_variable, variable_kept}
 use Rattle.core_print.proofs.AgainPieces.{one, one_word, opened, ◌▷◌, same_text, first_part, next_part}
 use Rattle.core_print.proofs.AgainLeft.{variable_left}
-use Rattle.core_print.proofs.AgainStarts.{IsItem, Again, again_no_deeper}
+use Rattle.core_print.proofs.AgainStarts.{IsItem}
+use Rattle.core_print.proofs.AgainParts.{Again, again_no_deeper}
 
 module _ {z : Module} where
   variable_again : {n : ℕ} {s u : Tables} {ms q : List Marked} {v : ℕ} → IsVariable n s ms v u q → Keeps u z → AreFine ms → Again n z s (variable_text z v) (λ k ms r. IsVariable k s ms v u r)

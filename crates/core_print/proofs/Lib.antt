@@ -3,6 +3,7 @@ pub mod AgainLeft
 pub mod AgainLists
 pub mod AgainModule
 pub mod AgainNames
+pub mod AgainParts
 pub mod AgainPatterns
 pub mod AgainPieces
 pub mod AgainStarts
