@@ -57,6 +57,7 @@ module _ {z : Module} where
   function_piece s text ds vs x is keeps p =
       same_text (sym (forms.function_text-is z (function (named_by (atom_number s text) ds) vs x))) (name_piece s text keeps is ▷ one_word w.Equals ▷ p)
 
+  -- each part is read again between the same tables
   mutual
     expr_again : {n : ℕ} {s u : Tables} {ms q : List Marked} {x : Expr} → IsExpr n s ms x u q → Keeps u z → AreFine ms → ExprAgain n z s x u
     expr_again (exprs.integer sign digits) keeps f = integer_form _ f.0.0.0 (integer_spelled sign (value digits) f.0.0.1) keeps

@@ -165,6 +165,7 @@ module _ {z : Module} where
   string_form (b ∷ bs) is keeps =
       form (forms.pattern-Str z (b ∷ bs)) (λ xs. ap (joined_at xs (p.Str (b ∷ bs))) (views.outs-Str (b ∷ bs))) (opened (t.Str (b ∷ bs)) is) (λ k r. refl) (λ k r after. pats.string (b ∷ bs)) keeps
 
+  -- each part is read again between the same tables
   mutual
     pub pattern_again : {n : ℕ} {s u : Tables} {ms q : List Marked} {x : Pattern} → IsPattern n s ms x u q → Keeps u z → AreFine ms → PatternAgain n z s x u
     pattern_again (pats.integer sign digits) keeps f = integer_form _ f.0.0.0 (integer_spelled sign (value digits) f.0.0.1) keeps
