@@ -1,2 +1,15 @@
+pub mod AgainExprs
+pub mod AgainLeft
+pub mod AgainLists
+pub mod AgainModule
+pub mod AgainNames
+pub mod AgainParts
+pub mod AgainPatterns
+pub mod AgainPieces
+pub mod AgainStarts
+pub mod AgainVariables
+pub mod CanonicalForms
 pub mod ListEnd
+pub mod Numbers
 pub mod Spelling
+pub mod Tables

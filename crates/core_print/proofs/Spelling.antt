@@ -80,7 +80,7 @@ AreBytes text = AllByRecursion (λ b. b ≤ 255) text
 
 -- a token that a text can have
 abbrev pub IsWritten : Token → Type 0
-IsWritten (t.Integer sign digits) = AreDigits digits
+IsWritten (t.Integer sign ds) = AreDigits ds
 IsWritten (t.Character code) = code ≤ 255
 IsWritten (t.Atom text) = AreBytes text
 IsWritten (t.Str text) = AreBytes text
