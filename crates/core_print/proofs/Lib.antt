@@ -1,2 +1,6 @@
 pub mod ListEnd
+pub mod Quoting
+pub mod Spelled
+pub mod SpelledTokens
 pub mod Spelling
+pub mod Written
