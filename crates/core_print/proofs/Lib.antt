@@ -1,5 +1,6 @@
 pub mod ListEnd
 pub mod Quoting
+pub mod Siteless
 pub mod Spelled
 pub mod SpelledTokens
 pub mod Spelling
