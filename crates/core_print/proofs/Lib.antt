@@ -11,5 +11,10 @@ pub mod AgainVariables
 pub mod CanonicalForms
 pub mod ListEnd
 pub mod Numbers
+pub mod Quoting
+pub mod Siteless
+pub mod Spelled
+pub mod SpelledTokens
 pub mod Spelling
 pub mod Tables
+pub mod Written
