@@ -12,6 +12,7 @@ pub mod CanonicalForms
 pub mod ListEnd
 pub mod Numbers
 pub mod Quoting
+pub mod ReadsBack
 pub mod Siteless
 pub mod Spelled
 pub mod SpelledTokens

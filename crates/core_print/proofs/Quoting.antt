@@ -20,7 +20,7 @@ unfolding class_of mark_of plain_class
 quote_class _ _ single = refl
 quote_class _ _ double = refl
 
-backslash_class : class_of 92 ≡ c.Backslash
+pub backslash_class : class_of 92 ≡ c.Backslash
 unfolding class_of mark_of plain_class
 backslash_class = refl
 
@@ -48,7 +48,7 @@ unfolding is_octal
 octal_small n small = grind (arith, nat_tests, small)
 
 -- three octal digits of a byte stand for it
-octal_escape : (b : ℕ) (rest : List ℕ) → b ≤ 255 → IsEscape (octal_digits b) rest b
+pub octal_escape : (b : ℕ) (rest : List ℕ) → b ≤ 255 → IsEscape (octal_digits b) rest b
 octal_escape b rest small =
     let value : 8 * (8 * (48 + b / 64 - 48) + (48 + b / 8 % 8 - 48)) + (48 + b % 8 - 48) ≡ b = omega arith in
     let first = octal_small (b / 64) (omega arith) in

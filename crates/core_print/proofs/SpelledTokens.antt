@@ -1,10 +1,10 @@
 -- The text that is written for a token is that token, where a space stands behind it.
 use Rattle.std.proofs.Common.{◌≡◌, ℕ, Bool, true, false, ◌&&◌, List, [], ◌∷◌, ◌++◌, Some, refl}
-use Rattle.std.specs.List.{AllByRecursion, list_all}
+use Rattle.std.specs.List.{list_all}
 use Rattle.hy_core.specs.Bytes.{class_of, mark_of, plain_class, is_digit, is_lower, is_variable_part, Pass, Stops}
-use Rattle.hy_core.specs.Tokens.{keyword, IsToken, integer, signed, atom, string, variable, word, mark, mark_of_two}
-use Rattle.hy_core.specs.Marks.{Marked}
-use Rattle.core_print.proofs.Quoting.{single, double, quote_class, quoted_body}
+use Rattle.hy_terms.specs.Texts.{octal_digits}
+use Rattle.hy_core.specs.Tokens.{keyword, IsToken, integer, signed, escape, atom, string, variable, word, mark, mark_of_two}
+use Rattle.core_print.proofs.Quoting.{single, double, backslash_class, octal_escape, quote_class, quoted_body}
 use Rattle.core_print.proofs.Spelling.{word_text, token_text, sign_text, AreDigits, digits, IsVariableName, variable_name, IsWritten}
 use Rattle.hy_core.specs.declared.token.ByteClass.{ByteClass}
 use Rattle.hy_core.specs.declared.token.ByteClass.TheVariants as c
@@ -88,14 +88,6 @@ spelled_word w.NoteBar rest gap = mark_of_two refl refl
 
 -- ---- all tokens
 
--- a token that a canonical text has: characters are integers there
-abbrev pub IsCanonical : Token → Type 0
-IsCanonical (t.Character code) = ⊥
-IsCanonical _ = Unit {0}
-
-abbrev pub AreCanonical : List Marked → Type 0
-AreCanonical ms = AllByRecursion (λ m. IsCanonical m.token) ms
-
 plus_class : class_of 43 ≡ c.Plus
 unfolding class_of mark_of plain_class
 plus_class = refl
@@ -103,6 +95,10 @@ plus_class = refl
 minus_class : class_of 45 ≡ c.Minus
 unfolding class_of mark_of plain_class
 minus_class = refl
+
+dollar_class : class_of 36 ≡ c.Dollar
+unfolding class_of mark_of plain_class
+dollar_class = refl
 
 spelled_number : (sign : Sign) (ds rest : List ℕ) → AreDigits ds → BeginsGap rest → IsToken (sign_text sign ++ ds) rest (t.Integer sign ds)
 spelled_number g.Absent _ rest (digits is ps) gap = integer is ps (stops is_digit rest refl gap)
@@ -113,10 +109,10 @@ spelled_variable : (name rest : List ℕ) → IsVariableName name → BeginsGap 
 spelled_variable _ rest (variable_name is ps) gap = variable is ps (stops is_variable_part rest refl gap)
 
 -- the text of a token is that token, where a space stands behind it
-pub spelled_token : (k : Token) (rest : List ℕ) → IsWritten k → IsCanonical k → BeginsGap rest → IsToken (token_text k) rest k
-spelled_token (t.Integer sign ds) rest is canonical gap = spelled_number sign ds rest is gap
-spelled_token (t.Character code) rest is canonical gap = absurd canonical
-spelled_token (t.Atom text) rest is canonical gap = atom (quote_class 39 c.Quote single) (quoted_body 39 c.Quote text single is)
-spelled_token (t.Str text) rest is canonical gap = string (quote_class 34 c.DoubleQuote double) (quoted_body 34 c.DoubleQuote text double is)
-spelled_token (t.Variable name) rest is canonical gap = spelled_variable name rest is gap
-spelled_token (t.Word k) rest is canonical gap = spelled_word k rest gap
+pub spelled_token : (k : Token) (rest : List ℕ) → IsWritten k → BeginsGap rest → IsToken (token_text k) rest k
+spelled_token (t.Integer sign ds) rest is gap = spelled_number sign ds rest is gap
+spelled_token (t.Character code) rest is gap = escape {es = octal_digits code} dollar_class backslash_class (octal_escape code rest is)
+spelled_token (t.Atom text) rest is gap = atom (quote_class 39 c.Quote single) (quoted_body 39 c.Quote text single is)
+spelled_token (t.Str text) rest is gap = string (quote_class 34 c.DoubleQuote double) (quoted_body 34 c.DoubleQuote text double is)
+spelled_token (t.Variable name) rest is gap = spelled_variable name rest is gap
+spelled_token (t.Word k) rest is gap = spelled_word k rest gap

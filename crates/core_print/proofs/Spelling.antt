@@ -1,8 +1,7 @@
 -- The tokens that a canonical text is made of, each with its text.
 use Rattle.std.specs.Prelude.{◌≡◌, ℕ, ◌≤◌, List, [], ◌∷◌, ◌++◌, codes}
 use Rattle.std.specs.List.{AllByRecursion}
-use Rattle.std.specs.Fmt.{decimal}
-use Rattle.hy_terms.specs.Texts.{atom_text, quoted}
+use Rattle.hy_terms.specs.Texts.{atom_text, octal_digits, quoted}
 use Rattle.hy_core.specs.Bytes.{class_of, is_digit, is_variable_part, Pass}
 use Rattle.hy_core.specs.Marks.{Marked, IsSound}
 use Rattle.hy_core.specs.declared.token.ByteClass.TheVariants as c
@@ -53,10 +52,10 @@ sign_text g.Absent = []
 sign_text g.Plus = codes "+"
 sign_text g.Minus = codes "-"
 
--- the text of a token, as a canonical text has it
+-- the text of a token, as a canonical text has it; a character, which no canonical text has, in octal
 abbrev pub token_text : Token → List ℕ
 token_text (t.Integer sign digits) = sign_text sign ++ digits
-token_text (t.Character code) = decimal code
+token_text (t.Character code) = 36 ∷ 92 ∷ octal_digits code
 token_text (t.Atom text) = atom_text text
 token_text (t.Str text) = quoted 34 text
 token_text (t.Variable name) = name

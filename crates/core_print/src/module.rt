@@ -14,9 +14,9 @@ use std::alloc::Global;
 ///
 /// It has no annotations and no attributes. Lists of variables and of patterns stand between `<` and `>`, a list whose tail is nil has no bar, and characters are integers. A number that isn't in the module's table of atoms or variables has the empty text there.
 pub fn print_module(alloc: Global, module: &Module) -> Result<Vec<u8>, Memory>
-    ensures canonical { IfOk result (λ text. text.items ≡ canonical_text module.now) }
+    ensures canonical { IfOk result (λ text. text.items ≡ canonical_text «module».now) }
     // What was read is read again: the grammar gives the text the same tree, site numbers aside.
-    ensures reads_back { IfOk result (λ text. (source : List ℕ) → IsModuleText source (unsited module.now) → HasTree text.items (unsited module.now)) }
+    ensures reads_back { IfOk result (λ text. (source : List ℕ) → IsModuleText source (unsited «module».now) → HasTree text.items (unsited «module».now)) }
 {
     let mut out = Vec::new(alloc);
     push_head(&mut out, module)?;
