@@ -46,9 +46,9 @@ abbrev pub with_any : Line → List ℕ → Option Line
 with_any line word =
     if is_option word
     then
-      (if bytes_eq word (codes "--") then Some (line_at next.File line.mode line.files)
-      else if bytes_eq word (codes "--mode") then Some (line_at next.Value line.mode line.files)
-      else with_option_value line (behind (codes "--mode=") word))
+    (if bytes_eq word (codes "--") then Some (line_at next.File line.mode line.files)
+    else if bytes_eq word (codes "--mode") then Some (line_at next.Value line.mode line.files)
+    else with_option_value line (behind (codes "--mode=") word))
     else Some (with_file line word)
 
 abbrev pub with_word_at : Next → Line → List ℕ → Option Line
@@ -64,32 +64,37 @@ abbrev pub mode_or_run : Option Mode → Mode
 mode_or_run None = m.Run
 mode_or_run (Some mode) = mode
 
-abbrev pub command_of : Option Mode → List (List ℕ) → Option (Mode × List (List ℕ))
-command_of mode files = if nat_le 1 (length files) && nat_le (length files) most_files then Some (mode_or_run mode, files) else None
+-- there are 1 to 64 files
+abbrev pub command_of : Mode → List (List ℕ) → Option (Mode × List (List ℕ))
+command_of mode files = if nat_le 1 (length files) && nat_le (length files) most_files then Some (mode, files) else None
 
 abbrev pub ended_at : Next → Line → Option (Mode × List (List ℕ))
 ended_at next.Value line = None
-ended_at _ line = command_of line.mode line.files
+ended_at _ line = command_of (mode_or_run line.mode) line.files
 
 -- no word more
 abbrev pub ended : Line → Option (Mode × List (List ℕ))
 ended line = ended_at line.next line
 
-mutual
-  -- the words behind those of the line
-  pub command_from : Line → List (List ℕ) → Option (Mode × List (List ℕ))
-  command_from line [] = ended line
-  command_from line (word ∷ words) = command_on (with_word line word) words
+abbrev pub Reading : Type 0
+Reading = Line → Option (Mode × List (List ℕ))
 
-  pub command_on : Option Line → List (List ℕ) → Option (Mode × List (List ℕ))
-  command_on None words = None
-  command_on (Some line) words = command_from line words
+-- the line, where there is one, read on
+abbrev pub read_on : Option Line → Reading
+    → Option (Mode × List (List ℕ))
+read_on None reading = None
+read_on (Some line) reading = reading line
+
+-- the words behind those of the line
+abbrev pub command_from : List (List ℕ) → Reading
+command_from [] line = ended line
+command_from (word ∷ words) line = read_on (with_word line word) (command_from words)
 
 abbrev pub no_words : Line
 no_words = line_at next.Any None []
 
 abbrev pub command_in : List (List ℕ) → Option (Mode × List (List ℕ))
-command_in words = command_from no_words words
+command_in words = command_from words no_words
 
 -- the line after a word, or usage, or want of memory
 abbrev pub GivesLine : Result (Unit {0}) TopFault → Line → Option Line → Type 0

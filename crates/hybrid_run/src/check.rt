@@ -10,11 +10,7 @@ use outside::{Failed, Sink};
 use std::alloc::Global;
 
 /// Writes the canonical text of each module, in order, by one write each.
-pub fn write_texts<K: Sink>(
-    alloc: Global,
-    modules: &[Module],
-    sink: &mut K,
-) -> Result<(), TopFault>
+pub fn write_texts<K: Sink>(alloc: Global, modules: &[Module], sink: &mut K) -> Result<(), TopFault>
     ensures ok { OnOk result (Appends (K.written sink.old) (K.written sink.new) (canonical_texts modules.now)) }
     ensures prefix { IsErrOf result TopFault.Write → AppendsPrefix (K.written sink.old) (K.written sink.new) (canonical_texts modules.now) }
     ensures rises { IsErrOf result TopFault.Write → Rises (K.faults sink.old) (K.faults sink.new) }

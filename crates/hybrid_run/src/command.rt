@@ -47,7 +47,7 @@ const MOST_FILES: u64 = 64;
 pub fn files(alloc: Global, words: &Words) -> Result<Words, Memory>
     ensures { IfOk result (λ files. NameFiles words.now files) }
 {
-    match command(alloc, words) {
+    match read_command(alloc, words) {
         Ok(command) => Ok(command.files),
         Err(TopFault::Memory) => Err(Memory),
         Err(_) => Ok(Words::new(alloc)),
@@ -55,7 +55,7 @@ pub fn files(alloc: Global, words: &Words) -> Result<Words, Memory>
 }
 
 /// What the words of a command line ask for.
-pub fn command(alloc: Global, words: &Words) -> Result<Command, TopFault>
+pub fn read_command(alloc: Global, words: &Words) -> Result<Command, TopFault>
     ensures { GivesCommand result (command_in words.now) }
 {
     let mut line = Line::new(alloc);

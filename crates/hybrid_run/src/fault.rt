@@ -4,7 +4,7 @@ ghost use Rattle.hybrid_run.specs.Faults.{text_of_fault, read_fault_text, refusa
 use core_reader::Refused;
 use hy_core::RefusalKind;
 use hy_terms::{Memory, Words};
-use std::alloc::Global;
+use std::alloc::{AllocFailed, Global};
 
 /// Why the program answers no run. A file is a place among the file words.
 #[derive(Clone, Copy, Debug, PartialEq, Eq)]
@@ -46,6 +46,17 @@ impl From<Memory> for TopFault {
     ghost from_gives = { λ _ e. e ≡ faults.Memory };
 
     fn from(_error: Memory) -> TopFault {
+        TopFault::Memory
+    }
+}
+
+impl<T: Drop> From<AllocFailed<T>> for TopFault {
+    ghost use Rattle.std.specs.Prelude.{◌≡◌};
+    ghost use Rattle.hybrid_run.specs.declared.fault.TopFault.TheVariants as faults;
+
+    ghost from_gives = { λ _ e. e ≡ faults.Memory };
+
+    fn from(_error: AllocFailed<T>) -> TopFault {
         TopFault::Memory
     }
 }

@@ -21,7 +21,7 @@ pub fn load_all<S: Sources>(
     sources: &mut S,
 ) -> Result<Vec<Module>, TopFault>
     requires { length files.now ≤ most_files }
-    ensures loaded { IfOk result (λ modules. AreReadWhereTold (S.told sources.old) files.now modules.items) }
+    ensures loaded { IfOk result (λ zs. AreReadWhereTold (S.told sources.old) files.now zs.items) }
     ensures refused { (file : ℕ) (kind : RefusalKind) (place : ℕ) → IsErrOf result (refused_at file kind place) →
         IsRefusedWhereTold (S.told sources.old) files.now file kind place }
     ensures read { (file : ℕ) (name : List ℕ) → IsErrOf result (TopFault.Read file) → slice_get files.now file ≡ Some name →
@@ -44,7 +44,7 @@ fn load<S: Sources>(
     name: &str,
     sources: &mut S,
 ) -> Result<Module, TopFault>
-    ensures loaded { IfOk result (λ module. IsReadWhereTold (S.told sources.old) name.now module) }
+    ensures loaded { IfOk result (λ z. IsReadWhereTold (S.told sources.old) name.now z) }
     ensures refused { (kind : RefusalKind) (place : ℕ) → IsErrOf result (refused_at file kind place) →
         (text : List ℕ) → S.told sources.old name.now ≡ Some text → IsRefusedText text kind place }
     ensures read { IsErrOf result (TopFault.Read file) → Rises (S.faults sources.old name.now) (S.faults sources.new name.now) }
@@ -61,7 +61,7 @@ fn load<S: Sources>(
 
 /// The module of the text of the file at this place.
 fn parse(alloc: Global, file: u32, text: &[u8]) -> Result<Module, TopFault>
-    ensures loaded { IfOk result (λ module. IsModuleText text.now module) }
+    ensures loaded { IfOk result (λ z. IsModuleText text.now z) }
     ensures refused { (kind : RefusalKind) (place : ℕ) → IsErrOf result (refused_at file kind place) → IsRefusedText text.now kind place }
     ensures kinds { IfErr result (IsOfFile file) }
     ensures never { IsErrOf result (TopFault.Read file) → ⊥ }

@@ -8,7 +8,7 @@ ghost use Rattle.hybrid_run.specs.Loading.{AreRead, AreTold, IsFirstRefused, IsR
 ghost use Rattle.hybrid_run.specs.declared.command.Mode.{Mode as Modes};
 ghost use Rattle.outside.specs.Outside.{Rises};
 
-use crate::command::{Command, command};
+use crate::command::{Command, read_command};
 use crate::fault::{TopFault, status_of};
 use crate::load::load_all;
 use crate::run::run_mode;
@@ -86,7 +86,7 @@ pub fn hybrid<R: Threads, S: Sources, K: Sink, G: Gate>(
     ensures statuses { Contains (0 ∷ 1 ∷ 2 ∷ 3 ∷ 6 ∷ 7 ∷ 8 ∷ []) result.status }
 {
     let _ = rt;
-    match command(alloc, words) {
+    match read_command(alloc, words) {
         Ok(command) => finish_of(answer(alloc, &command, sources, sink, gate)),
         Err(fault) => finish_of(Err(fault)),
     }
