@@ -27,9 +27,13 @@ fn push_table(out: &mut Vec<u8>, table: &Atoms) -> Result<(), Memory> {
     Ok(())
 }
 
-fn push_name(out: &mut Vec<u8>, names: &Module, name: FunName) -> Result<(), Memory> {
+fn push_atom_token(out: &mut Vec<u8>, names: &Module, atom: u32) -> Result<(), Memory> {
     put(out, b" ")?;
-    push_atom(out, text_in(&names.atoms, name.name))?;
+    push_atom(out, text_in(&names.atoms, atom))
+}
+
+fn push_name(out: &mut Vec<u8>, names: &Module, name: FunName) -> Result<(), Memory> {
+    push_atom_token(out, names, name.name)?;
     put(out, b" / ")?;
     push_int(out, i64::from(name.arity))
 }
@@ -61,10 +65,7 @@ fn push_pattern(out: &mut Vec<u8>, names: &Module, pattern: &Pattern) -> Result<
 fn push_expr(out: &mut Vec<u8>, names: &Module, expr: &Expr) -> Result<(), Memory> {
     match expr {
         Expr::Var(variable) => push_variable(out, names, *variable),
-        Expr::Atom(atom) => {
-            put(out, b" ")?;
-            push_atom(out, text_in(&names.atoms, *atom))
-        }
+        Expr::Atom(atom) => push_atom_token(out, names, *atom),
         Expr::Name(name) => push_name(out, names, *name),
         Expr::Nil => put(out, b" [ ]"),
         Expr::List {
@@ -74,9 +75,7 @@ fn push_expr(out: &mut Vec<u8>, names: &Module, expr: &Expr) -> Result<(), Memor
         } => {
             put(out, b" [")?;
             push_exprs(out, names, heads.as_slice())?;
-            put(out, b" |")?;
-            push_expr(out, names, tail.get())?;
-            put(out, b" ]")
+            push_tail(out, names, tail.get())
         }
         Expr::Apply { what, args } => {
             put(out, b" apply")?;
@@ -99,6 +98,13 @@ fn push_expr(out: &mut Vec<u8>, names: &Module, expr: &Expr) -> Result<(), Memor
         }
         _ => put(out, b" ?"),
     }
+}
+
+#[cycle(shown)]
+fn push_tail(out: &mut Vec<u8>, names: &Module, tail: &Expr) -> Result<(), Memory> {
+    put(out, b" |")?;
+    push_expr(out, names, tail)?;
+    put(out, b" ]")
 }
 
 #[cycle(shown)]
@@ -137,8 +143,7 @@ fn push_clauses(out: &mut Vec<u8>, names: &Module, clauses: &[Clause]) -> Result
 /// The module's name and its exports, each with a space before it.
 fn head(alloc: Global, module: &Module) -> Result<Vec<u8>, Memory> {
     let mut out = Vec::new(alloc);
-    put(&mut out, b" ")?;
-    push_atom(&mut out, text_in(&module.atoms, module.name))?;
+    push_atom_token(&mut out, module, module.name)?;
     for export in module.exports.as_slice() {
         push_name(&mut out, module, *export)?;
     }
