@@ -1,5 +1,6 @@
-//! Reads the text of a module, and prints its canonical text.
+//! Reads the text of a module, prints its canonical text, and gives the modules of the prelude.
 #![tactic(auto)]
 
 pub use core_parse::{ReadAnswer, Refused, read_module};
+pub use core_prelude::prelude;
 pub use core_print::print_module;
