@@ -1,6 +1,9 @@
+pub mod Answering
 pub mod Bindings
+pub mod CommandReading
 pub mod Evaluating
 pub mod Lists
+pub mod Loaded
 pub mod Modules
 pub mod Parts
 pub mod Running
