@@ -1,9 +1,9 @@
-//! Runs the Core Erlang file that the command line names.
+//! Runs the Core Erlang files that the command line names, or prints their canonical texts.
 #![tactic(auto)]
 
-ghost use Rattle.std.specs.Prelude.{length};
+ghost use Rattle.std.specs.Prelude.{List, ℕ, length};
+ghost use Rattle.hybrid_run.specs.CommandLine.{NameFiles};
 ghost use Rattle.hybrid_run.specs.Faults.{IsOfFiles};
-ghost use Rattle.hybrid_run.specs.FileWords.{file_words};
 
 use hy_terms::{Memory, Words};
 use hybrid_run::{TopFault, fault_text, files, hybrid};
@@ -53,7 +53,7 @@ fn command_line<R: Env + AllocGlobal>(rt: &R, alloc: Global) -> Result<Words, Me
 
 /// The line for a fault of these words.
 fn complaint(alloc: Global, fault: &TopFault, words: &Words) -> Result<Vec<u8>, Memory>
-    requires { IsOfFiles fault.now (length (file_words words.now)) }
+    requires { (names : List (List ℕ)) → NameFiles words.now names → IsOfFiles fault.now (length names) }
 {
     let files = files(alloc, words)?;
     fault_text(alloc, fault, &files)

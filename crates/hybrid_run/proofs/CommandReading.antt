@@ -1,22 +1,24 @@
 -- The words, read one after the other, give the command that they are.
-use Rattle.std.proofs.Common.{◌≡◌, ◌⊎◌, ℕ, ◌≤◌, Bool, true, false, ◌==◌, ◌&&◌, nat_le, List, [], ◌∷◌, ◌++◌, codes, length, Option, Some, None, inl, inr, refl, sym, ap, subst, ◌∙◌, append_assoc, arith}
+use Rattle.std.proofs.Common.{◌≡◌, ℕ, suc, zero, ◌+◌, ◌≤◌, Bool, true, false, nat_le, List, [], ◌∷◌, ◌++◌, codes, drop, length, slice_get, Option, Some, None, Result, Err, refl, sym, ap, subst, ◌∙◌, append_assoc, arith}
 use Rattle.std.specs.Str.{bytes_eq}
 use Rattle.std.proofs.lemmas.Bool.Decides.{nat_tests}
-use Rattle.std.proofs.lemmas.Bool.{eqb-true}
 use Rattle.std.proofs.lemmas.List.{append-nil}
 use Rattle.std.proofs.lemmas.Slice.Eq.{bytes_eq-Decides}
 use Rattle.hybrid_run.specs.CommandLine.{is_option, AreWords, over, file, value_next, value_inside, files_alone, GiveMode, absent, run, check, most_files, IsCommand, IsUsage}
-use Rattle.hybrid_run.specs.Line.{mode_named, behind, line_at, with_any, first_mode, with_value, with_option_value, mode_or_run, command_of, command_from, command_in, no_words, read_on}
+use Rattle.hybrid_run.specs.Line.{mode_named, behind, line_at, with_any, with_word, with_value, with_option_value, mode_or_run, command_of, command_from, command_in, read_on, GivesLine, GivesCommand}
+use Rattle.hybrid_run.specs.declared.command.Command.{Command}
 use Rattle.hybrid_run.specs.declared.command.Mode.{Mode}
 use Rattle.hybrid_run.specs.declared.command.Mode.TheVariants as m
 use Rattle.hybrid_run.specs.declared.command.Next.{Next}
 use Rattle.hybrid_run.specs.declared.command.Next.TheVariants as next
 use Rattle.hybrid_run.specs.declared.command.Line.{Line}
+use Rattle.hybrid_run.specs.declared.fault.TopFault.{TopFault}
+use Rattle.hybrid_run.specs.declared.fault.TopFault.TheVariants as f
 
 -- the mode so far, and the values behind it, give this mode
 pub data Gives : Option Mode → List (List ℕ) → Mode → Type 0 where
   first : {modes : List (List ℕ)} {mode : Mode} → GiveMode modes mode → Gives None modes mode
-  given : {mode : Mode} → Gives (Some mode) [] mode
+  already : {mode : Mode} → Gives (Some mode) [] mode
 
 -- ---- from the words to the command
 
@@ -26,16 +28,17 @@ all_files (word ∷ words) mode files = all_files words mode (files ++ word ∷ 
 
 mode_at_end : (so_far : Option Mode) (mode : Mode) → Gives so_far [] mode → mode_or_run so_far ≡ mode
 mode_at_end None _ (first absent) = refl
-mode_at_end (Some mode) _ given = refl
+mode_at_end (Some mode) _ already = refl
 
 -- a value is taken where none was, and then no other may follow
 value_taken : (so_far : Option Mode) (value : List ℕ) (modes : List (List ℕ)) (mode : Mode) (n : Next) (files : List (List ℕ)) → Gives so_far (value ∷ modes) mode
     → (modes ≡ []) × (with_value (line_at n so_far files) value ≡ Some (line_at next.Any (Some mode) files))
 value_taken None _ _ _ n files (first run) = (refl, refl)
 value_taken None _ _ _ n files (first check) = (refl, refl)
+value_taken (Some _) value modes mode n files gives = elim gives [ ]
 
 given_from : (modes : List (List ℕ)) (mode : Mode) → modes ≡ [] → Gives (Some mode) modes mode
-given_from modes mode is = subst (λ (vs : List (List ℕ)). Gives (Some mode) vs mode) (sym is) given
+given_from modes mode is = subst (λ (vs : List (List ℕ)). Gives (Some mode) vs mode) (sym is) already
 
 words_read : {words modes files : List (List ℕ)} → AreWords words modes files → (so_far : Option Mode) (before : List (List ℕ)) (mode : Mode) → Gives so_far modes mode
     → command_from words (line_at next.Any so_far before) ≡ command_of mode (before ++ files)
@@ -142,7 +145,7 @@ record Came (words : List (List ℕ)) (so_far : Option Mode) (before : List (Lis
 
 gives_at_end : (so_far : Option Mode) (mode : Mode) → mode_or_run so_far ≡ mode → Gives so_far [] mode
 gives_at_end None mode is = subst (λ (k : Mode). Gives None [] k) is (first absent)
-gives_at_end (Some k) mode is = subst (λ (o : Mode). Gives (Some k) [] o) is given
+gives_at_end (Some k) mode is = subst (λ (o : Mode). Gives (Some k) [] o) is already
 
 -- a value of `--mode`, and the words behind it
 came_behind : (value : List ℕ) (n : Next) (rest : List (List ℕ)) (so_far : Option Mode) (before : List (List ℕ)) (mode : Mode) (files : List (List ℕ)) → ((k : Mode) → command_from rest (line_at next.Any (Some k) before) ≡ found mode files → Came rest (Some k) before mode files)
@@ -158,7 +161,7 @@ came_behind value n rest None before mode files on is words with_value = by (mod
         taken k p c = settle k p c.modes c.named c.are_words c.gives c.same_files c.some c.few
           where
             settle : (k : Mode) → mode_named value ≡ Some k → (modes named : List (List ℕ)) → AreWords rest modes named → Gives (Some k) modes mode → before ++ named ≡ files → 1 ≤ length files → length files ≤ most_files → Came words None before mode files
-            settle _ p _ named d given same some few = record {
+            settle _ p _ named d already same some few = record {
               modes = value ∷ [];
               named = named;
               are_words = with_value named d;
@@ -168,18 +171,26 @@ came_behind value n rest None before mode files on is words with_value = by (mod
               few = few;
             }
 
-text_behind : (prefix word value : List ℕ) → behind prefix word ≡ Some value → prefix ++ value ≡ word
+-- the first bytes of a word and of its prefix
+first_byte : (p b : ℕ) (ps bs value : List ℕ) → (behind ps bs ≡ some_text value → ps ++ value ≡ bs) → (same : Bool) → bytes_eq (p ∷ []) (b ∷ []) ≡ same → behind (p ∷ ps) (b ∷ bs) ≡ some_text value → (p ∷ ps) ++ value ≡ b ∷ bs
+first_byte p b ps bs value on true q is =
+    let first : p ∷ [] ≡ b ∷ [] = same_text (p ∷ []) (b ∷ []) q in
+    let head : p ≡ b = cc in
+    ap (λ (k : ℕ). k ∷ (ps ++ value)) head ∙ ap (λ (k : List ℕ). b ∷ k) (on (rw q at is))
+first_byte p b ps bs value on false q is = absurd (let bad : no_text ≡ some_text value = rw q at is in cc)
+
+text_behind : (prefix word value : List ℕ) → behind prefix word ≡ some_text value → prefix ++ value ≡ word
 text_behind [] word value is = cc
 text_behind (p ∷ ps) [] value is = absurd cc
-text_behind (p ∷ ps) (b ∷ bs) value is = by (bytes_eq (p ∷ []) (b ∷ [])) refl
+text_behind (p ∷ ps) (b ∷ bs) value is = first_byte p b ps bs value (text_behind ps bs value) (bytes_eq (p ∷ []) (b ∷ [])) refl is
+
+-- a word that doesn't begin so has nothing behind it
+pub none_behind : (prefix word : List ℕ) → ((value : List ℕ) → word ≡ prefix ++ value → ⊥) → behind prefix word ≡ None
+none_behind prefix word never = by (behind prefix word) refl
   where
-    by : (same : Bool) → bytes_eq (p ∷ []) (b ∷ []) ≡ same → (p ∷ ps) ++ value ≡ b ∷ bs
-    by true q =
-        let first : p ∷ [] ≡ b ∷ [] = same_text (p ∷ []) (b ∷ []) q in
-        let head : p ≡ b = cc in
-        let rest : ps ++ value ≡ bs = text_behind ps bs value (rw q at is) in
-        ap (λ (k : ℕ). k ∷ (ps ++ value)) head ∙ ap (λ (k : List ℕ). b ∷ k) rest
-    by false q = absurd (let bad : no_text ≡ some_text value = rw q at is in cc)
+    by : (o : Option (List ℕ)) → behind prefix word ≡ o → behind prefix word ≡ None
+    by None p = p
+    by (Some value) p = absurd (never value (sym (text_behind prefix word value p)))
 
 -- all words behind `--` are files
 came_alone : (words : List (List ℕ)) (so_far : Option Mode) (before : List (List ℕ)) (mode : Mode) (files : List (List ℕ)) → command_from words (line_at next.File so_far before) ≡ found mode files → Came (codes "--" ∷ words) so_far before mode files
@@ -253,3 +264,41 @@ pub one_command : (words : List (List ℕ)) (mode given : Mode) (files named : L
 one_command words mode given files named is c =
     let both : found given named ≡ found mode files = sym is ∙ command_is words mode files c in
     (ap (λ (o : Found). mode_in o given) both, ap (λ (o : Found). files_in o named) both)
+
+differs : (a b : List ℕ) → (a ≡ b → ⊥) → bytes_eq a b ≡ false
+differs a b other = by (bytes_eq a b) refl
+  where
+    by : (same : Bool) → bytes_eq a b ≡ same → bytes_eq a b ≡ false
+    by true p = absurd (other (same_text a b p))
+    by false p = p
+
+-- a word that is no option that there is
+pub any_none : (line : Line) (word : List ℕ) (begins : Bool) → begins ≡ is_option word → begins ≡ true → (word ≡ codes "--" → ⊥) → (word ≡ codes "--mode" → ⊥) → ((value : List ℕ) → word ≡ codes "--mode=" ++ value → ⊥) → with_any line word ≡ None
+any_none line word begins is option alone value never = rw (sym is, option, differs word (codes "--") alone, differs word (codes "--mode") value, none_behind (codes "--mode=") word never) refl
+
+-- ---- one word after the other
+
+drop_get : (xs : List (List ℕ)) (i : ℕ) (x : List ℕ) → slice_get xs i ≡ Some x → drop i xs ≡ x ∷ drop (suc i) xs
+drop_get [] i x is = absurd cc
+drop_get (y ∷ ys) zero x is = (let same : y ≡ x = cc in ap (λ (k : List ℕ). k ∷ ys) same)
+drop_get (y ∷ ys) (suc i) x is = drop_get ys i x is
+
+-- a word that is taken, and one that is none that there is
+next_word : (words : List (List ℕ)) (place : ℕ) (word : List ℕ) (line : Line) → slice_get words place ≡ Some word → command_from (drop place words) line ≡ command_in words → read_on (with_word line word) (command_from (drop (place + 1) words)) ≡ command_in words
+next_word words place word line stands so_far =
+    let next : suc place ≡ place + 1 = omega arith in
+    subst (λ (i : ℕ). read_on (with_word line word) (command_from (drop i words)) ≡ command_in words) next
+    (ap (λ (rest : List (List ℕ)). command_from rest line) (sym (drop_get words place word stands)) ∙ so_far)
+
+pub word_taken : (words : List (List ℕ)) (place : ℕ) (word : List ℕ) (line now : Line) → slice_get words place ≡ Some word → command_from (drop place words) line ≡ command_in words → with_word line word ≡ Some now → command_from (drop (place + 1) words) now ≡ command_in words
+word_taken words place word line now stands so_far is = ap (λ (o : Option Line). read_on o (command_from (drop (place + 1) words))) (sym is) ∙ next_word words place word line stands so_far
+
+pub word_refused : (words : List (List ℕ)) (place : ℕ) (word : List ℕ) (line now : Line) (fault : TopFault) (r : Result Command TopFault) → slice_get words place ≡ Some word → command_from (drop place words) line ≡ command_in words → GivesLine (Err fault) now (with_word line word)
+    → r ≡ Err fault → GivesCommand r (command_in words)
+word_refused words place word line now f.Usage r stands so_far gives is =
+    subst (λ (k : Result Command TopFault). GivesCommand k (command_in words)) (sym is) (sym (next_word words place word line stands so_far) ∙ ap (λ (o : Option Line). read_on o (command_from (drop (place + 1) words))) gives)
+word_refused words place word line now (f.Read other) r stands so_far gives is = absurd gives
+word_refused words place word line now (f.Refused other refused) r stands so_far gives is = absurd gives
+word_refused words place word line now f.NotBuilt r stands so_far gives is = absurd gives
+word_refused words place word line now f.Write r stands so_far gives is = absurd gives
+word_refused words place word line now f.Memory r stands so_far gives is = subst (λ (k : Result Command TopFault). GivesCommand k (command_in words)) (sym is) tt

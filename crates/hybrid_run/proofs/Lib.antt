@@ -1,7 +1,9 @@
 pub mod Answering
 pub mod Bindings
 pub mod CommandReading
+pub mod Doing
 pub mod Evaluating
+pub mod Finishing
 pub mod Lists
 pub mod Loaded
 pub mod Modules

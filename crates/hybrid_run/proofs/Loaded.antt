@@ -1,6 +1,6 @@
 -- What the texts of the files are, by what was read of them.
-use Rattle.std.proofs.Common.{◌≡◌, ◌⊎◌, ℕ, suc, zero, ◌+◌, ◌<◌, ◌≤◌, ◌^◌, List, [], ◌∷◌, ◌++◌, take, length, slice_get, get_or, Option, None, Some, inl, inr, refl, sym, ap, subst, ◌∙◌, arith}
-use Rattle.std.specs.Prelude.{IfSome}
+use Rattle.std.proofs.Common.{◌≡◌, ℕ, suc, zero, ◌+◌, ◌<◌, ◌≤◌, ◌^◌, List, [], ◌∷◌, ◌++◌, take, length, slice_get, Option, None, Some, Result, Err, refl, sym, ap, subst, ◌∙◌, arith}
+use Rattle.std.specs.Prelude.{IfErr, IfSome}
 use Rattle.std.specs.List.{AllByRecursion}
 use Rattle.std.proofs.lemmas.List.{take_all, length-take}
 use Rattle.hy_core.specs.Reading.{IsModuleText}
@@ -11,7 +11,10 @@ use Rattle.hy_core.specs.declared.tree.Module.{Module}
 use Rattle.core_parse.proofs.WholeText.{one_tree}
 use Rattle.core_parse.proofs.OneVerdict.{no_module_is_refused, one_refusal}
 use Rattle.outside.specs.Outside.{first_bytes, read_limit}
-use Rattle.hybrid_run.specs.Loading.{Told, AreTold, IsRead, AreRead, IsReadWhereTold, AreReadWhereTold, AreModulesBefore, PassBefore, IsRefusedWhereTold, IsFirstRefused}
+use Rattle.hybrid_run.specs.Faults.{IfNamesFile, IsOfFile}
+use Rattle.hybrid_run.specs.declared.fault.TopFault.{TopFault}
+use Rattle.hybrid_run.specs.declared.fault.TopFault.TheVariants as f
+use Rattle.hybrid_run.specs.Loading.{Told, AreTold, IsRead, AreRead, IsReadWhereTold, AreReadWhereTold, PassBefore, IsRefusedWhereTold, IsFirstRefused}
 
 -- ---- the first bytes of a text, and the whole
 
@@ -53,7 +56,7 @@ refused_told o bytes kind place is refused = whole_told o bytes (λ (text : List
 -- ---- one file after the other
 
 -- one file more
-pub read_more : (told : Told) (files : List (List ℕ)) (zs : List Module) (file : List ℕ) (z : Module) → AreReadWhereTold told files zs → IsReadWhereTold told file z → AreReadWhereTold told (files ++ file ∷ []) (zs ++ z ∷ [])
+read_more : (told : Told) (files : List (List ℕ)) (zs : List Module) (file : List ℕ) (z : Module) → AreReadWhereTold told files zs → IsReadWhereTold told file z → AreReadWhereTold told (files ++ file ∷ []) (zs ++ z ∷ [])
 read_more told [] [] file z h read = (read, tt)
 read_more told [] (y ∷ ys) file z h read = absurd h
 read_more told (other ∷ others) [] file z h read = absurd h
@@ -139,3 +142,39 @@ pub file_at : (files : List (List ℕ)) (place : ℕ) → place < length files �
 file_at [] place low = absurd (omega arith)
 file_at (f ∷ fs) zero low = (f, refl)
 file_at (f ∷ fs) (suc i) low = file_at fs i (omega arith)
+
+-- the bytes of a slice that were read
+pub bytes_told : (o : Option (List ℕ)) (items bytes : List ℕ) → bytes ≡ items → IfSome o (λ whole. items ≡ first_bytes whole) → IfSome o (λ whole. bytes ≡ first_bytes whole)
+bytes_told None items bytes is h = tt
+bytes_told (Some whole) items bytes is h = is ∙ h
+
+behind_place : (told : Told) (files : List (List ℕ)) (place : ℕ) (zs : List Module) (file : ℕ) → file ≡ place → place < length files → AreReadWhereTold told (take place files) zs → (file < length files) × PassBefore told files file
+behind_place told files place zs file is low read = (omega (arith, is, low), subst (λ (i : ℕ). PassBefore told files i) (sym is) (pass told (take place files) zs read))
+
+-- a fault of the file at a place, behind files that were read
+pub behind_at : (told : Told) (files : List (List ℕ)) (place : ℕ) (zs : List Module) (fault : TopFault) → IsOfFile place fault → place < length files → AreReadWhereTold told (take place files) zs → IfNamesFile fault (λ file. (file < length files) × PassBefore told files file)
+behind_at told files place zs f.Usage kinds low read = tt
+behind_at told files place zs (f.Read file) kinds low read = behind_place told files place zs file kinds low read
+behind_at told files place zs (f.Refused file refused) kinds low read = behind_place told files place zs file kinds low read
+behind_at told files place zs f.NotBuilt kinds low read = tt
+behind_at told files place zs f.Write kinds low read = tt
+behind_at told files place zs f.Memory kinds low read = tt
+
+pub behind_result : {A : Type 0} (told : Told) (files : List (List ℕ)) (place : ℕ) (zs : List Module) (fault : TopFault) (r : Result A TopFault) → r ≡ Err fault → IsOfFile place fault → place < length files → AreReadWhereTold told (take place files) zs
+    → IfErr r (λ e. IfNamesFile e (λ file. (file < length files) × PassBefore told files file))
+behind_result {A = A} told files place zs fault r is kinds low read =
+    subst (λ (k : Result A TopFault). IfErr k (λ e. IfNamesFile e (λ file. (file < length files) × PassBefore told files file))) (sym is) (behind_at told files place zs fault kinds low read)
+
+take_get : (xs : List (List ℕ)) (i : ℕ) (x : List ℕ) → slice_get xs i ≡ Some x → take (suc i) xs ≡ take i xs ++ x ∷ []
+take_get [] i x is = absurd cc
+take_get (y ∷ ys) zero x is = (let same : y ≡ x = cc in ap (λ (k : List ℕ). k ∷ []) same)
+take_get (y ∷ ys) (suc i) x is = ap (λ (k : List (List ℕ)). y ∷ k) (take_get ys i x is)
+
+-- the file at the next place was read, from sources that tell the same
+pub read_next : (told now : Told) (files : List (List ℕ)) (place : ℕ) (zs items : List Module) (file : List ℕ) (z : Module) → slice_get files place ≡ Some file → ((other : List ℕ) → now other ≡ told other) → AreReadWhereTold told (take place files) zs → IsReadWhereTold now file z
+    → items ≡ zs ++ z ∷ [] → AreReadWhereTold told (take (place + 1) files) items
+read_next told now files place zs items file z stands same read one is =
+    let next : suc place ≡ place + 1 = omega arith in
+    subst (λ (i : ℕ). AreReadWhereTold told (take i files) items) next
+    (subst (λ (xs : List Module). AreReadWhereTold told (take (suc place) files) xs) (sym is)
+    (subst (λ (fs : List (List ℕ)). AreReadWhereTold told fs (zs ++ z ∷ [])) (sym (take_get files place file stands)) (read_more told (take place files) zs file z read (λ text tells. one text (same file ∙ tells)))))

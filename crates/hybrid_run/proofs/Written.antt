@@ -1,9 +1,11 @@
 -- Bytes written one piece after the other.
-use Rattle.std.proofs.Common.{◌≡◌, ℕ, ◌+◌, ◌<◌, ◌≤◌, List, [], ◌∷◌, ◌++◌, map, take, length, get_or, Option, None, Some, refl, sym, ap, subst, ◌∙◌, append_assoc, inl, inr, arith}
-use Rattle.std.proofs.lemmas.List.{append-nil, take_more, map-append, take-append-drop}
+use Rattle.std.proofs.Common.{◌≡◌, ℕ, ◌+◌, ◌<◌, ◌≤◌, List, [], ◌∷◌, ◌++◌, take, length, get_or, Option, None, Some, refl, sym, ap, subst, ◌∙◌, append_assoc, inl, inr, arith}
+use Rattle.std.proofs.lemmas.List.{append-nil, take_more, take-append-drop}
 use Rattle.std.specs.Prelude.{drop}
-use Rattle.hy_core.specs.Alone.{lines_of}
+use Rattle.hy_core.specs.Canonical.{canonical_text}
+use Rattle.hy_core.specs.declared.tree.Module.{Module}
 use Rattle.hybrid_run.specs.Arithmetic.{value_text, printed_lines}
+use Rattle.hybrid_run.specs.Headline.{canonical_texts}
 use Rattle.outside.specs.Outside.{Appends, AppendsPrefix, Rises}
 use Rattle.hybrid_run.specs.declared.value.Value.{Value}
 
@@ -31,39 +33,72 @@ pub rises_behind : (a b c : ℕ) → a ≤ b → Rises b c → Rises a c
 rises_behind a b c h (inl lt) = inl (omega arith)
 rises_behind a b c h (inr last) = inr last
 
-lines_push : (texts : List (List ℕ)) (text : List ℕ) → lines_of (texts ++ text ∷ []) ≡ lines_of texts ++ (text ++ 10 ∷ [])
-lines_push [] text = append-nil (text ++ 10 ∷ [])
-lines_push (t ∷ ts) text = ap (λ (k : List ℕ). (t ++ 10 ∷ []) ++ k) (lines_push ts text) ∙ sym (append_assoc (t ++ 10 ∷ []) (lines_of ts) (text ++ 10 ∷ []))
+-- ---- pieces, one for each item
 
-lines-append : (xs ys : List (List ℕ)) → lines_of (xs ++ ys) ≡ lines_of xs ++ lines_of ys
-lines-append [] ys = refl
-lines-append (x ∷ xs) ys = ap (λ (k : List ℕ). (x ++ 10 ∷ []) ++ k) (lines-append xs ys) ∙ sym (append_assoc (x ++ 10 ∷ []) (lines_of xs) (lines_of ys))
+module _ {A : Type 0} (piece : A → List ℕ) where
+  pieces : List A → List ℕ
+  pieces [] = []
+  pieces (x ∷ xs) = piece x ++ pieces xs
 
--- one value more is one line more
-pub lines_more : (values : List Value) (i : ℕ) (d : Value) → i < length values → printed_lines (take (i + 1) values) ≡ printed_lines (take i values) ++ (value_text (get_or values i d) ++ 10 ∷ [])
-lines_more values i d h =
-    ap printed_lines (take_more values i d h)
-    ∙ ap lines_of (map-append value_text (take i values) (get_or values i d ∷ []))
-    ∙ lines_push (map value_text (take i values)) (value_text (get_or values i d))
+  pieces-append : (xs ys : List A) → pieces (xs ++ ys) ≡ pieces xs ++ pieces ys
+  unfolding pieces
+  pieces-append [] ys = refl
+  pieces-append (x ∷ xs) ys = ap (λ (k : List ℕ). piece x ++ k) (pieces-append xs ys) ∙ sym (append_assoc (piece x) (pieces xs) (pieces ys))
 
--- the lines up to one, that line, and those behind it
-pub lines_split : (values : List Value) (i : ℕ) (d : Value) → i < length values → printed_lines values ≡ (printed_lines (take i values) ++ (value_text (get_or values i d) ++ 10 ∷ [])) ++ printed_lines (drop (i + 1) values)
-lines_split values i d h =
-    ap printed_lines (sym (take-append-drop (i + 1) values))
-    ∙ ap lines_of (map-append value_text (take (i + 1) values) (drop (i + 1) values))
-    ∙ lines-append (map value_text (take (i + 1) values)) (map value_text (drop (i + 1) values))
-    ∙ ap (λ (k : List ℕ). k ++ printed_lines (drop (i + 1) values)) (lines_more values i d h)
+  -- one item more is one piece more
+  pieces_more : (xs : List A) (i : ℕ) (d : A) → i < length xs → pieces (take (i + 1) xs) ≡ pieces (take i xs) ++ piece (get_or xs i d)
+  unfolding pieces
+  pieces_more xs i d h = ap pieces (take_more xs i d h) ∙ pieces-append (take i xs) (get_or xs i d ∷ []) ∙ ap (λ (k : List ℕ). pieces (take i xs) ++ k) (append-nil (piece (get_or xs i d)))
+
+  -- one piece more in the sink
+  piece_written : (a b c : Option (List ℕ)) (xs : List A) (i : ℕ) (d : A) → i < length xs → Appends a b (pieces (take i xs)) → Appends b c (piece (get_or xs i d)) → Appends a c (pieces (take (i + 1) xs))
+  piece_written a b c xs i d h before now = subst (λ (k : List ℕ). Appends a c k) (sym (pieces_more xs i d h)) (appends_both a b c (pieces (take i xs)) (piece (get_or xs i d)) before now)
+
+  -- a piece that was cut
+  piece_cut : (a b c : Option (List ℕ)) (xs : List A) (i : ℕ) (d : A) → i < length xs → Appends a b (pieces (take i xs)) → AppendsPrefix b c (piece (get_or xs i d)) → AppendsPrefix a c (pieces xs)
+  piece_cut a b c xs i d h before now =
+      let one = piece (get_or xs i d) in
+      let whole : pieces xs ≡ (pieces (take i xs) ++ one) ++ pieces (drop (i + 1) xs) =
+      ap pieces (sym (take-append-drop (i + 1) xs)) ∙ pieces-append (take (i + 1) xs) (drop (i + 1) xs) ∙ ap (λ (k : List ℕ). k ++ pieces (drop (i + 1) xs)) (pieces_more xs i d h) in
+      subst (λ (k : List ℕ). AppendsPrefix a c k) (sym whole) (prefix_longer a c (pieces (take i xs) ++ one) (pieces (drop (i + 1) xs)) (prefix_behind a b c (pieces (take i xs)) one before now))
+
+-- ---- lines
+
+abbrev line_piece : Value → List ℕ
+line_piece value = value_text value ++ 10 ∷ []
+
+lines_pieces : (values : List Value) → pieces line_piece values ≡ printed_lines values
+unfolding pieces
+lines_pieces [] = refl
+lines_pieces (v ∷ vs) = ap (λ (k : List ℕ). line_piece v ++ k) (lines_pieces vs)
 
 -- one line more in the sink
 pub line_written : (a b c : Option (List ℕ)) (values : List Value) (i : ℕ) (d : Value) (text : List ℕ) → i < length values → text ≡ value_text (get_or values i d) ++ 10 ∷ [] → Appends a b (printed_lines (take i values)) → Appends b c text → Appends a c (printed_lines (take (i + 1) values))
 line_written a b c values i d text h is before now =
-    let here = subst (λ (k : List ℕ). Appends b c k) is now in
-    subst (λ (k : List ℕ). Appends a c k) (sym (lines_more values i d h)) (appends_both a b c (printed_lines (take i values)) (value_text (get_or values i d) ++ 10 ∷ []) before here)
+    subst (λ (k : List ℕ). Appends a c k) (lines_pieces (take (i + 1) values))
+    (piece_written line_piece a b c values i d h (subst (λ (k : List ℕ). Appends a b k) (sym (lines_pieces (take i values))) before) (subst (λ (k : List ℕ). Appends b c k) is now))
 
 -- a line that was cut
 pub line_cut : (a b c : Option (List ℕ)) (values : List Value) (i : ℕ) (d : Value) (text : List ℕ) → i < length values → text ≡ value_text (get_or values i d) ++ 10 ∷ [] → Appends a b (printed_lines (take i values)) → AppendsPrefix b c text → AppendsPrefix a c (printed_lines values)
 line_cut a b c values i d text h is before now =
-    let line = value_text (get_or values i d) ++ 10 ∷ [] in
-    let here = subst (λ (k : List ℕ). AppendsPrefix b c k) is now in
-    subst (λ (k : List ℕ). AppendsPrefix a c k) (sym (lines_split values i d h))
-    (prefix_longer a c (printed_lines (take i values) ++ line) (printed_lines (drop (i + 1) values)) (prefix_behind a b c (printed_lines (take i values)) line before here))
+    subst (λ (k : List ℕ). AppendsPrefix a c k) (lines_pieces values)
+    (piece_cut line_piece a b c values i d h (subst (λ (k : List ℕ). Appends a b k) (sym (lines_pieces (take i values))) before) (subst (λ (k : List ℕ). AppendsPrefix b c k) is now))
+
+-- ---- texts of modules
+
+texts_pieces : (zs : List Module) → pieces canonical_text zs ≡ canonical_texts zs
+unfolding pieces
+texts_pieces [] = refl
+texts_pieces (z ∷ zs) = ap (λ (k : List ℕ). canonical_text z ++ k) (texts_pieces zs)
+
+-- one text more in the sink
+pub text_written : (a b c : Option (List ℕ)) (zs : List Module) (i : ℕ) (d : Module) (text : List ℕ) → i < length zs → text ≡ canonical_text (get_or zs i d) → Appends a b (canonical_texts (take i zs)) → Appends b c text → Appends a c (canonical_texts (take (i + 1) zs))
+text_written a b c zs i d text h is before now =
+    subst (λ (k : List ℕ). Appends a c k) (texts_pieces (take (i + 1) zs))
+    (piece_written canonical_text a b c zs i d h (subst (λ (k : List ℕ). Appends a b k) (sym (texts_pieces (take i zs))) before) (subst (λ (k : List ℕ). Appends b c k) is now))
+
+-- a text that was cut
+pub text_cut : (a b c : Option (List ℕ)) (zs : List Module) (i : ℕ) (d : Module) (text : List ℕ) → i < length zs → text ≡ canonical_text (get_or zs i d) → Appends a b (canonical_texts (take i zs)) → AppendsPrefix b c text → AppendsPrefix a c (canonical_texts zs)
+text_cut a b c zs i d text h is before now =
+    subst (λ (k : List ℕ). AppendsPrefix a c k) (texts_pieces zs)
+    (piece_cut canonical_text a b c zs i d h (subst (λ (k : List ℕ). Appends a b k) (sym (texts_pieces (take i zs))) before) (subst (λ (k : List ℕ). AppendsPrefix b c k) is now))

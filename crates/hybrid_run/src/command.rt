@@ -49,8 +49,8 @@ pub fn files(alloc: Global, words: &Words) -> Result<Words, Memory>
 {
     match read_command(alloc, words) {
         Ok(command) => Ok(command.files),
-        Err(TopFault::Memory) => Err(Memory),
-        Err(_) => Ok(Words::new(alloc)),
+        Err(TopFault::Usage) => Ok(Words::new(alloc)),
+        Err(_) => Err(Memory),
     }
 }
 

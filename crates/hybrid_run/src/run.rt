@@ -33,11 +33,21 @@ pub fn run_mode<K: Sink, G: Gate>(
 {
     match mode {
         Mode::Run => run_program(alloc, modules, sink, gate),
-        Mode::Check => {
-            write_texts(alloc, modules, sink)?;
-            Ok(0)
-        }
+        Mode::Check => print_modules(alloc, modules, sink),
     }
+}
+
+/// Writes the canonical texts of the modules.
+fn print_modules<K: Sink>(alloc: Global, modules: &[Module], sink: &mut K) -> Result<u8, TopFault>
+    ensures done { IfOk result (λ status. Done Mode.Check modules.now (K.written sink.old) (K.written sink.new) status) }
+    ensures built { IsBuiltFor Mode.Check modules.now }
+    ensures cut { IsErrOf result TopFault.Write → Cut Mode.Check modules.now (K.written sink.old) (K.written sink.new) }
+    ensures rises { IsErrOf result TopFault.Write → Rises (K.faults sink.old) (K.faults sink.new) }
+    ensures kinds { IfErr result IsOfOutput }
+    ensures status { IfOk result IsDoneStatus }
+{
+    write_texts(alloc, modules, sink)?;
+    Ok(0)
 }
 
 /// Runs a program of one module, where that is of the arithmetic forms.

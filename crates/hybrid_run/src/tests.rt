@@ -20,6 +20,31 @@ fn module_of<R: AllocGlobal>(rt: &R, body: &[u8]) -> Result<Vec<u8>, Fail> {
     Ok(text)
 }
 
+/// Runs these words, with files of these names and texts, sources that fail at these calls, and this sink.
+fn run_words<R: Threads + AllocGlobal>(
+    rt: &R,
+    words: &[&str],
+    files: &[(&str, &[u8])],
+    fails: Vec<u64>,
+    mut sink: MemorySink,
+) -> Result<(Finish, MemorySink), Fail> {
+    let mut list = Words::new(rt.alloc());
+    for word in words {
+        list.push(word)?;
+    }
+    let mut sources = MemorySources::new(rt.alloc(), fails);
+    for file in files {
+        sources.add(file.0, file.1)?;
+    }
+    let finish = hybrid(rt, rt.alloc(), &list, &mut sources, &mut sink, &OpenGate);
+    Ok((finish, sink))
+}
+
+/// A sink that never fails.
+fn wide_sink<R: AllocGlobal>(rt: &R) -> Result<MemorySink, Fail> {
+    Ok(MemorySink::new(rt.alloc(), ROOM, Vec::new(rt.alloc()))?)
+}
+
 /// Runs the file of this text, with a sink that fails at these calls.
 fn run_file<R: Threads + AllocGlobal>(
     rt: &R,
@@ -27,13 +52,14 @@ fn run_file<R: Threads + AllocGlobal>(
     room: u64,
     fails: Vec<u64>,
 ) -> Result<(Finish, MemorySink), Fail> {
-    let mut words = Words::new(rt.alloc());
-    words.push("m.core")?;
-    let mut sources = MemorySources::new(rt.alloc(), Vec::new(rt.alloc()));
-    sources.add("m.core", text)?;
-    let mut sink = MemorySink::new(rt.alloc(), room, fails)?;
-    let finish = hybrid(rt, rt.alloc(), &words, &mut sources, &mut sink, &OpenGate);
-    Ok((finish, sink))
+    let sink = MemorySink::new(rt.alloc(), room, fails)?;
+    run_words(
+        rt,
+        &["m.core"],
+        &[("m.core", text)],
+        Vec::new(rt.alloc()),
+        sink,
+    )
 }
 
 fn ended(status: u8) -> Finish {
@@ -158,45 +184,228 @@ fn builds_the_arithmetic_part_alone(rt: HostRuntime) -> Result<(), Fail> {
     Ok(())
 }
 
-/// Runs these words, with sources that fail at their first call or don't know the name.
-fn run_words<R: Threads + AllocGlobal>(
-    rt: &R,
-    words: &[&str],
-    fails: Vec<u64>,
-) -> Result<(Finish, MemorySink), Fail> {
-    let mut list = Words::new(rt.alloc());
-    for word in words {
-        list.push(word)?;
-    }
-    let text = module_of(rt, b"7")?;
-    let mut sources = MemorySources::new(rt.alloc(), fails);
-    sources.add("m.core", text.as_slice())?;
-    let mut sink = MemorySink::new(rt.alloc(), ROOM, Vec::new(rt.alloc()))?;
-    let finish = hybrid(rt, rt.alloc(), &list, &mut sources, &mut sink, &OpenGate);
-    Ok((finish, sink))
-}
+/// The files of the tests on words: two modules, and a text that is none.
+const FILES: [(&str, &[u8]); 3] = [
+    (
+        "m.core",
+        b"module 'm' ['main'/0] attributes [] 'main'/0 = fun () -> 7 end",
+    ),
+    ("-", b"module 'dash' [] attributes ['x' = 1] end"),
+    ("open.core", b"module 'm"),
+];
+
+const M: &[u8] = b"module 'm' [ 'main' / 0 ] attributes [ ] 'main' / 0 = fun ( ) -> 7 end\n";
+
+const DASH: &[u8] = b"module 'dash' [ ] attributes [ ] end\n";
 
 #[test]
-fn takes_one_file_word(rt: HostRuntime) -> Result<(), Fail> {
-    let usage: [&[&str]; 4] = [&[], &["m.core", "m.core"], &["-x"], &["--", "m.core"]];
+fn takes_the_words_of_a_command_line(rt: HostRuntime) -> Result<(), Fail> {
+    let runs: [&[&str]; 5] = [
+        &["m.core"],
+        &["--mode", "run", "m.core"],
+        &["m.core", "--mode=run"],
+        &["--", "m.core"],
+        &["--mode", "run", "--", "m.core"],
+    ];
+    for words in runs.as_slice() {
+        let told = run_words(
+            &rt,
+            words,
+            FILES.as_slice(),
+            Vec::new(rt.alloc()),
+            wide_sink(&rt)?,
+        )?;
+        assert_eq!(rt; told.0, ended(0));
+        assert_eq!(rt; told.1.bytes(), b"0 ended 7\n".as_slice());
+    }
+    let usage: [&[&str]; 10] = [
+        &[],
+        &["--"],
+        &["-x"],
+        &["--help"],
+        &["--mode", "m.core"],
+        &["m.core", "--mode"],
+        &["m.core", "--mode="],
+        &["--mode", "run", "--mode", "run", "m.core"],
+        &["--mode=check", "--mode", "check", "m.core"],
+        &["--modes", "run", "m.core"],
+    ];
     for words in usage.as_slice() {
-        let told = run_words(&rt, words, Vec::new(rt.alloc()))?;
+        let told = run_words(
+            &rt,
+            words,
+            FILES.as_slice(),
+            Vec::new(rt.alloc()),
+            wide_sink(&rt)?,
+        )?;
         assert_eq!(rt; told.0, refused(2, TopFault::Usage));
         assert_eq!(rt; told.1.bytes(), b"".as_slice());
     }
-    let told = run_words(&rt, &["m.core"], Vec::new(rt.alloc()))?;
-    assert_eq!(rt; told.0, ended(0));
     Ok(())
 }
 
 #[test]
-fn names_the_file_that_fails(rt: HostRuntime) -> Result<(), Fail> {
-    let failing = run_words(&rt, &["m.core"], Vec::from_slice(rt.alloc(), &[1])?)?;
-    assert_eq!(rt; failing.0, refused(6, TopFault::Read { file: 0 }));
-    assert_eq!(rt; failing.1.bytes(), b"".as_slice());
-    let unknown = run_words(&rt, &["other.core"], Vec::new(rt.alloc()))?;
-    assert_eq!(rt; unknown.0, refused(6, TopFault::Read { file: 0 }));
-    assert_eq!(rt; unknown.1.bytes(), b"".as_slice());
+fn takes_up_to_64_files(rt: HostRuntime) -> Result<(), Fail> {
+    let mut words: Vec<&str> = vec![in rt.alloc(); "--mode", "check"]?;
+    for _ in 0..64 {
+        words.push("-")?;
+    }
+    let told = run_words(
+        &rt,
+        words.as_slice(),
+        FILES.as_slice(),
+        Vec::new(rt.alloc()),
+        wide_sink(&rt)?,
+    )?;
+    assert_eq!(rt; told.0, ended(0));
+    assert_eq!(rt; told.1.bytes().len(), 64 * DASH.len());
+    words.push("-")?;
+    let told = run_words(
+        &rt,
+        words.as_slice(),
+        FILES.as_slice(),
+        Vec::new(rt.alloc()),
+        wide_sink(&rt)?,
+    )?;
+    assert_eq!(rt; told.0, refused(2, TopFault::Usage));
+    Ok(())
+}
+
+#[test]
+fn prints_each_file_in_order(rt: HostRuntime) -> Result<(), Fail> {
+    let both = run_words(
+        &rt,
+        &["-", "--mode", "check", "m.core", "-"],
+        FILES.as_slice(),
+        Vec::new(rt.alloc()),
+        wide_sink(&rt)?,
+    )?;
+    let mut texts = Vec::from_slice(rt.alloc(), DASH)?;
+    texts.extend_from_slice(M)?;
+    texts.extend_from_slice(DASH)?;
+    assert_eq!(rt; both.0, ended(0));
+    assert_eq!(rt; both.1.bytes(), texts.as_slice());
+    let sink = MemorySink::new(rt.alloc(), ROOM, Vec::from_slice(rt.alloc(), &[2])?)?;
+    let cut = run_words(
+        &rt,
+        &["--mode=check", "m.core", "-"],
+        FILES.as_slice(),
+        Vec::new(rt.alloc()),
+        sink,
+    )?;
+    assert_eq!(rt; cut.0, refused(7, TopFault::Write));
+    assert_eq!(rt; cut.1.bytes(), M);
+    Ok(())
+}
+
+/// The text of a file as compilers write it, by hand.
+const COMPILED: &[u8] = b"module 'm' ['main'/0,
+            'module_info'/0,
+            'module_info'/1]
+    attributes ['file' = [{\"m.erl\",1}]]
+'main'/0 =
+    %% Line 3
+    ( fun () ->
+          case <> of
+            <> when 'true' ->
+                let <_0> = apply 'f'/1 (7)
+                in  call 'erlang':'display' (_0)
+            ( <> when 'true' ->
+                  ( primop 'match_fail'
+                        ( ( {'function_clause'}
+                            -| [{'function',{'main',0}}] ) )
+                    -| [{'function',{'main',0}}] )
+              -| ['compiler_generated'] )
+          end
+      -| [{'function',{'main',0}}] )
+'f'/1 =
+    %% Line 4
+    fun (_0) ->
+        case _0 of
+          <X> when call 'erlang':'>' (_0, 5) ->
+              {'big',X}
+          <X> when 'true' ->
+              {'small',X}
+        end
+'module_info'/0 =
+    fun () -> call 'erlang':'get_module_info' ('m')
+'module_info'/1 =
+    fun (_0) -> call 'erlang':'get_module_info' ('m', _0)
+end
+";
+
+#[test]
+fn prints_canonical_texts(rt: HostRuntime) -> Result<(), Fail> {
+    let rows: [(&[u8], &[u8]); 2] = [
+        (
+            b"module 'm' ['main'/0] attributes ['x' = 1] 'main'/0 = ( fun () -> [1|[2]] -| [] ) end",
+            b"module 'm' [ 'main' / 0 ] attributes [ ] 'main' / 0 = fun ( ) -> [ 1 , 2 ] end\n",
+        ),
+        (
+            COMPILED,
+            b"module 'm' [ 'main' / 0 ] attributes [ ] 'main' / 0 = fun ( ) -> case < > of < > when 'true' -> let < _0 > = apply 'f' / 1 ( 7 ) in call 'erlang' : 'display' ( _0 ) < > when 'true' -> primop 'match_fail' ( { 'function_clause' } ) end 'f' / 1 = fun ( _0 ) -> case _0 of < X > when call 'erlang' : '>' ( _0 , 5 ) -> { 'big' , X } < X > when 'true' -> { 'small' , X } end end\n",
+        ),
+    ];
+    for row in rows.as_slice() {
+        for text in [row.0, row.1].as_slice() {
+            let told = run_words(
+                &rt,
+                &["--mode", "check", "m.core"],
+                &[("m.core", *text)],
+                Vec::new(rt.alloc()),
+                wide_sink(&rt)?,
+            )?;
+            assert_eq!(rt; told.0, ended(0));
+            assert_eq!(rt; told.1.bytes(), row.1);
+        }
+    }
+    Ok(())
+}
+
+#[test]
+fn names_the_first_file_that_is_wrong(rt: HostRuntime) -> Result<(), Fail> {
+    let ended_early = Refused {
+        kind: RefusalKind::Ended,
+        place: 9,
+    };
+    let rows: [(&[&str], u64, Finish); 6] = [
+        (&["m.core"], 1, refused(6, TopFault::Read { file: 0 })),
+        (&["other.core"], 9, refused(6, TopFault::Read { file: 0 })),
+        (
+            &["m.core", "-", "m.core"],
+            3,
+            refused(6, TopFault::Read { file: 2 }),
+        ),
+        (
+            &["m.core", "open.core", "other.core"],
+            9,
+            refused(
+                3,
+                TopFault::Refused {
+                    file: 1,
+                    refused: ended_early,
+                },
+            ),
+        ),
+        (
+            &["--mode=check", "m.core", "open.core", "-", "open.core"],
+            9,
+            refused(
+                3,
+                TopFault::Refused {
+                    file: 1,
+                    refused: ended_early,
+                },
+            ),
+        ),
+        (&["m.core", "-"], 9, refused(3, TopFault::NotBuilt)),
+    ];
+    for row in rows.as_slice() {
+        let fails = Vec::from_slice(rt.alloc(), &[row.1])?;
+        let told = run_words(&rt, row.0, FILES.as_slice(), fails, wide_sink(&rt)?)?;
+        assert_eq!(rt; told.0, row.2);
+        assert_eq!(rt; told.1.bytes(), b"".as_slice());
+    }
     Ok(())
 }
 
@@ -280,13 +489,17 @@ fn reads_a_text_of_the_most_bytes(rt: HostRuntime) -> Result<(), Fail> {
 #[test]
 fn says_why(rt: HostRuntime) -> Result<(), Fail> {
     let mut words = Words::new(rt.alloc());
-    words.push("m.core")?;
+    for word in ["m.core", "--mode=check", "--", "-x"].as_slice() {
+        words.push(word)?;
+    }
     let files = files(rt.alloc(), &words)?;
-    assert_eq!(rt; files.len(), 1);
+    assert_eq!(rt; files.len(), 2);
+    assert_eq!(rt; files.word(0), "m.core");
+    assert_eq!(rt; files.word(1), "-x");
     let usage = fault_text(rt.alloc(), &TopFault::Usage, &files)?;
     assert_eq!(rt; usage.as_slice(), b"hyb: usage\n".as_slice());
-    let read = fault_text(rt.alloc(), &TopFault::Read { file: 0 }, &files)?;
-    assert_eq!(rt; read.as_slice(), b"hyb: cannot read m.core\n".as_slice());
+    let read = fault_text(rt.alloc(), &TopFault::Read { file: 1 }, &files)?;
+    assert_eq!(rt; read.as_slice(), b"hyb: cannot read -x\n".as_slice());
     let not_built = fault_text(rt.alloc(), &TopFault::NotBuilt, &files)?;
     assert_eq!(rt; not_built.as_slice(), b"hyb: not built\n".as_slice());
     let write = fault_text(rt.alloc(), &TopFault::Write, &files)?;

@@ -1,6 +1,7 @@
 ghost use Rattle.std.specs.Prelude.{◌≡◌, ◌+◌, ◌<◌, ◌≤◌, ℕ, List, [], ◌∷◌, length, slice_get, Contains, IfSome, Some, MatchOption, IfOk, IfErr, IsErrOf};
 ghost use Rattle.hy_core.specs.declared.refusal.RefusalKind.{RefusalKind};
 ghost use Rattle.hy_core.specs.declared.tree.Module.{Module};
+ghost use Rattle.hybrid_run.specs.Answers.{Answers, IsUsageAnswer, outside_of};
 ghost use Rattle.hybrid_run.specs.CommandLine.{IsCommand, IsUsage, NameFiles, most_files};
 ghost use Rattle.hybrid_run.specs.Faults.{FailsWith, HasWritten, IfNamesFile, IsOfCommand, IsOfFiles, IsRefusal, IsSilent, fault_of_answer, refused_at, status_of_answer, status_of_fault};
 ghost use Rattle.hybrid_run.specs.Headline.{Cut, Done, HasOtherProgram, HasProgram, IsAnswered, IsDoneStatus, IsSilentStatus};
@@ -86,10 +87,7 @@ pub fn hybrid<R: Threads, S: Sources, K: Sink, G: Gate>(
     ensures statuses { Contains (0 ∷ 1 ∷ 2 ∷ 3 ∷ 6 ∷ 7 ∷ 8 ∷ []) result.status }
 {
     let _ = rt;
-    match read_command(alloc, words) {
-        Ok(command) => finish_of(answer(alloc, &command, sources, sink, gate)),
-        Err(fault) => finish_of(Err(fault)),
-    }
+    finish_of(answer(alloc, words, sources, sink, gate))
 }
 
 /// The end of the program by what it answers.
@@ -109,8 +107,28 @@ fn finish_of(answer: Result<u8, TopFault>) -> Finish
     }
 }
 
-/// Does what the command asks for. Answers the status.
+/// Does what the words ask for. Answers the status.
 fn answer<S: Sources, K: Sink, G: Gate>(
+    alloc: Global,
+    words: &Words,
+    sources: &mut S,
+    sink: &mut K,
+    gate: &G,
+) -> Result<u8, TopFault>
+    ensures answers { (mode : Modes) (files : List (List ℕ)) → IsCommand words.now mode files → Answers mode (S.told sources.old) files
+        (outside_of (K.written sink.old) (K.written sink.new) (S.faults sources.old) (S.faults sources.new)) result }
+    ensures usage { IsUsage words.now → IsUsageAnswer result }
+    ensures usage_only { IsErrOf result TopFault.Usage → IsUsage words.now }
+    ensures write { IsErrOf result TopFault.Write → Rises (K.faults sink.old) (K.faults sink.new) }
+    ensures silent { IfErr result (λ fault. IsSilent fault → K.written sink.new ≡ K.written sink.old) }
+    ensures status { IfOk result IsDoneStatus }
+{
+    let command = read_command(alloc, words)?;
+    run_command(alloc, &command, sources, sink, gate)
+}
+
+/// Does what the command asks for. Answers the status.
+fn run_command<S: Sources, K: Sink, G: Gate>(
     alloc: Global,
     command: &Command,
     sources: &mut S,
@@ -118,26 +136,10 @@ fn answer<S: Sources, K: Sink, G: Gate>(
     gate: &G,
 ) -> Result<u8, TopFault>
     requires { length command.now.files ≤ most_files }
-    ensures done { IfOk result (λ status. (zs : List Module) → AreRead (S.told sources.old) command.now.files zs →
-        Done command.now.mode zs (K.written sink.old) (K.written sink.new) status) }
-    ensures accepted { HasWritten result → AreTold (S.told sources.old) command.now.files → HasProgram command.now.mode (S.told sources.old) command.now.files }
-    ensures cut { IsErrOf result TopFault.Write → (zs : List Module) → AreRead (S.told sources.old) command.now.files zs →
-        Cut command.now.mode zs (K.written sink.old) (K.written sink.new) }
-    ensures refuses { IfErr result (λ fault. IsRefusal fault → HasProgram command.now.mode (S.told sources.old) command.now.files → ⊥) }
-    ensures not_built { HasOtherProgram command.now.mode (S.told sources.old) command.now.files →
-        FailsWith TopFault.NotBuilt (length command.now.files) (fault_of_answer result) }
-    ensures not_built_only { IsErrOf result TopFault.NotBuilt → AreTold (S.told sources.old) command.now.files →
-        HasOtherProgram command.now.mode (S.told sources.old) command.now.files }
-    ensures source { (file : ℕ) (kind : RefusalKind) (place : ℕ) → IsFirstRefused (S.told sources.old) command.now.files file kind place →
-        FailsWith (refused_at file kind place) (file + 1) (fault_of_answer result) }
-    ensures source_only { (file : ℕ) (kind : RefusalKind) (place : ℕ) → IsErrOf result (refused_at file kind place) →
-        IsRefusedWhereTold (S.told sources.old) command.now.files file kind place }
-    ensures before { IfErr result (λ fault. IfNamesFile fault (λ file. (file < length command.now.files) × PassBefore (S.told sources.old) command.now.files file)) }
-    ensures read { (file : ℕ) (name : List ℕ) → IsErrOf result (TopFault.Read file) → slice_get command.now.files file ≡ Some name →
-        Rises (S.faults sources.old name) (S.faults sources.new name) }
+    ensures answers { Answers command.now.mode (S.told sources.old) command.now.files
+        (outside_of (K.written sink.old) (K.written sink.new) (S.faults sources.old) (S.faults sources.new)) result }
     ensures write { IsErrOf result TopFault.Write → Rises (K.faults sink.old) (K.faults sink.new) }
     ensures silent { IfErr result (λ fault. IsSilent fault → K.written sink.new ≡ K.written sink.old) }
-    ensures kinds { IfErr result IsOfCommand }
     ensures status { IfOk result IsDoneStatus }
 {
     let modules = load_all(alloc, &command.files, sources)?;
