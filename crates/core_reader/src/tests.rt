@@ -5,9 +5,10 @@ use std::alloc::{AllocError, Global};
 use std::process::Abort;
 use std::test::Fail;
 
-/// What stands before the body of the one function of a module, and what stands there in its canonical text.
+/// What stands before the body of the one function of a module.
 const HEAD: &str = "module 'm' ['main'/0] attributes ['x' = 1] 'main'/0 = fun () -> ";
 
+/// What stands there in its canonical text.
 const CANONICAL_HEAD: &str = "module 'm' [ 'main' / 0 ] attributes [ ] 'main' / 0 = fun ( ) -> ";
 
 /// Bodies of constants, tuples and lists, with their canonical texts.
@@ -171,11 +172,9 @@ const PRELUDE: &[(&str, &str)] = &[
 /// The tables of bodies.
 const BODIES: [&[(&str, &str)]; 3] = [VALUES, FORMS, PATTERNS];
 
-/// The text of the module with this body, and its canonical text, of which this is the body's part.
-fn with_body(alloc: Global, body: &str, canonical: &str) -> Result<(String, String), AllocError> {
-    let text = format!(in alloc; "{HEAD}{body} end")?;
-    let canonical = format!(in alloc; "{CANONICAL_HEAD}{canonical} end\n")?;
-    Ok((text, canonical))
+/// The text of a module, from its head and the body of its function.
+fn in_module(alloc: Global, head: &str, body: &str) -> Result<String, AllocError> {
+    format!(in alloc; "{head}{body} end\n")
 }
 
 /// The canonical text of the module that this text is read as.
@@ -194,7 +193,8 @@ fn assert_printed<R: Abort>(rt: &R, alloc: Global, text: &str, want: &str) -> Re
 fn prints_each_form(rt: HostRuntime) -> Result<(), Fail> {
     for table in BODIES {
         for (body, canonical) in table {
-            let (text, want) = with_body(rt.alloc(), body, canonical)?;
+            let text = in_module(rt.alloc(), HEAD, body)?;
+            let want = in_module(rt.alloc(), CANONICAL_HEAD, canonical)?;
             assert_printed(&rt, rt.alloc(), text.as_str(), want.as_str())?;
         }
     }
@@ -214,7 +214,7 @@ fn prints_modules(rt: HostRuntime) -> Result<(), Fail> {
 fn reads_back(rt: HostRuntime) -> Result<(), Fail> {
     for table in BODIES {
         for (body, canonical) in table {
-            let (_, want) = with_body(rt.alloc(), body, canonical)?;
+            let want = in_module(rt.alloc(), CANONICAL_HEAD, canonical)?;
             assert_printed(&rt, rt.alloc(), want.as_str(), want.as_str())?;
         }
     }
@@ -252,7 +252,8 @@ fn large_values(rt: HostRuntime) -> Result<(), Fail> {
         " , 7".repeat(alloc, 49_999)?,
         r"\177".repeat(alloc, 100_000)?
     )?;
-    let (text, want) = with_body(alloc, body.as_str(), canonical.as_str())?;
+    let text = in_module(alloc, HEAD, body.as_str())?;
+    let want = in_module(alloc, CANONICAL_HEAD, canonical.as_str())?;
     // The texts are too long to be shown where they differ.
     assert!(rt; printed(alloc, text.as_str())? == want, "printed");
     assert!(rt; printed(alloc, want.as_str())? == want, "printed again");
