@@ -13,18 +13,24 @@ use hy_terms::{Atoms, Memory};
 use sqlite_items::{Boxed, Items};
 use std::alloc::{AllocError, Global};
 
-// The variables of both modules, by their places in the table.
+// The variables of both modules, as places in `variable_names`.
+
+/// A function's first parameter.
 pub const X: u32 = 0;
 
+/// A function's second parameter: what a walk gives at the end of its list.
 pub const Y: u32 = 1;
 
+/// The head of a list.
 pub const H: u32 = 2;
 
+/// The tail of a list.
 pub const T: u32 = 3;
 
+/// What is neither nil nor a cons.
 pub const Z: u32 = 4;
 
-/// A table of these texts.
+/// A table of these texts, numbered from 0 in the order in which they come first.
 pub fn table_of(alloc: Global, texts: &[&[u8]]) -> Result<Atoms, Memory>
     ensures { IfOk result (λ table. table ≡ fold (λ names text. (named names text.now).1) [] texts.now) }
 {
@@ -44,7 +50,7 @@ pub fn variable_names(alloc: Global) -> Result<Atoms, Memory>
     table_of(alloc, &[b"X", b"Y", b"H", b"T", b"Z"])
 }
 
-/// `apply NAME(ARGS)`
+/// `apply FUNCTION(ARGS)`
 pub fn apply(alloc: Global, function: FunName, args: Vec<Expr>) -> Result<Expr, AllocError>
     ensures { IfOk result (λ x. x ≡ e.Apply (e.Name function) args.items) }
 {
@@ -54,7 +60,7 @@ pub fn apply(alloc: Global, function: FunName, args: Vec<Expr>) -> Result<Expr, 
     })
 }
 
-/// `call MODULE:NAME(ARGS)`
+/// `call MODULE:NAME(ARGS)`, where both are atoms, by their places in the table of the module that calls.
 pub fn call(alloc: Global, module: u32, name: u32, args: Vec<Expr>) -> Result<Expr, AllocError>
     ensures { IfOk result (λ x. x ≡ e.Call (e.Atom «module») (e.Atom name) args.items) }
 {
@@ -65,11 +71,12 @@ pub fn call(alloc: Global, module: u32, name: u32, args: Vec<Expr>) -> Result<Ex
     })
 }
 
-/// `[H|TAIL]`
+/// `[H|TAIL]`, where the tail is no list notation.
 pub fn head_before(alloc: Global, tail: Expr) -> Result<Expr, AllocError>
     ensures { IfOk result (λ x. x ≡ spec.head_before tail) }
 {
     Ok(Expr::List {
+        // No text tells a site, and the reader gives 0 too.
         site: 0,
         heads: Items::from_vec(vec![in alloc; Expr::Var(H)]?),
         tail: Boxed::new(alloc, tail)?,
@@ -79,6 +86,7 @@ pub fn head_before(alloc: Global, tail: Expr) -> Result<Expr, AllocError>
 /// The atoms that a walk over a list names, by their places in the table of its module.
 #[derive(Clone, Copy)]
 pub struct WalkAtoms {
+    /// `'true'`, as a guard.
     pub truth: u32,
     pub erlang: u32,
     pub error: u32,
@@ -102,7 +110,7 @@ fn clause(
 }
 
 // `[H|T]`
-fn pattern_of_some(alloc: Global) -> Result<Pattern, AllocError>
+fn cons_pattern(alloc: Global) -> Result<Pattern, AllocError>
     ensures { IfOk result (λ x. x ≡ p.List (p.Var spec.the_h ∷ []) (p.Var spec.the_t)) }
 {
     Ok(Pattern::List {
@@ -111,7 +119,14 @@ fn pattern_of_some(alloc: Global) -> Result<Pattern, AllocError>
     })
 }
 
-/// `case X of <[]> when 'true' -> Y <[H|T]> when 'true' -> STEP <Z> when 'true' -> call 'erlang':'error'('badarg') end`
+/// A walk over the list X that gives Y at its end:
+///
+/// ```text
+/// case X of
+///   <[]> when 'true' -> Y
+///   <[H|T]> when 'true' -> STEP
+///   <Z> when 'true' -> call 'erlang':'error'('badarg') end
+/// ```
 pub fn walk(alloc: Global, atoms: WalkAtoms, step: Expr) -> Result<Expr, AllocError>
     ensures { IfOk result (λ x. x ≡ spec.over_list atoms.truth atoms.erlang atoms.error atoms.badarg step) }
 {
@@ -119,7 +134,7 @@ pub fn walk(alloc: Global, atoms: WalkAtoms, step: Expr) -> Result<Expr, AllocEr
     let refusal = call(alloc, atoms.erlang, atoms.error, reason)?;
     let clauses = vec![in alloc;
         clause(alloc, atoms, Pattern::Nil, Expr::Var(Y))?,
-        clause(alloc, atoms, pattern_of_some(alloc)?, step)?,
+        clause(alloc, atoms, cons_pattern(alloc)?, step)?,
         clause(alloc, atoms, Pattern::Var(Z), refusal)?,
     ]?;
     Ok(Expr::Case {

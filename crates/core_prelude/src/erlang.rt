@@ -7,7 +7,8 @@ use hy_terms::{Atoms, Memory};
 use sqlite_items::Items;
 use std::alloc::{AllocError, Global};
 
-// The module's name, which is the first of its atoms.
+// The module's atoms, as places in `atom_names`.
+
 const ERLANG: u32 = 0;
 
 const PLUS_PLUS: FunName = FunName { name: 1, arity: 2 };
@@ -26,7 +27,7 @@ fn atom_names(alloc: Global) -> Result<Atoms, Memory>
     table_of(alloc, &[b"erlang", b"++", b"true", b"error", b"badarg"])
 }
 
-// `'++'/2 = fun (X,Y) -> case X of <[]> .. -> Y <[H|T]> .. -> [H|apply '++'/2(T,Y)] <Z> .. end`
+// `'++'/2 = fun (X,Y) -> WALK`, with the step `[H|apply '++'/2(T,Y)]`
 fn plus_plus(alloc: Global) -> Result<Function, AllocError>
     ensures { IfOk result (λ f. slice_get the_module_erlang.functions 0 ≡ Some f) }
 {
@@ -42,7 +43,7 @@ fn plus_plus(alloc: Global) -> Result<Function, AllocError>
     })
 }
 
-/// The module `'erlang'`.
+/// The module `'erlang'`, with `'++'/2`.
 pub fn module_erlang(alloc: Global) -> Result<Module, Memory>
     ensures { IfOk result (λ m. m ≡ the_module_erlang) }
 {

@@ -16,7 +16,9 @@ use hy_core::Module;
 use hy_terms::Memory;
 use std::alloc::Global;
 
-/// The modules that each program has beside those that are given: `'erlang'` with `'++'/2`, and `'lists'` with `'reverse'/1`, `'reverse'/2` and `'append'/2`.
+/// The modules that each program has beside those that are given: `'erlang'` with `'++'/2`, then `'lists'` with `'reverse'/1`, `'reverse'/2` and `'append'/2`.
+///
+/// Each function raises `badarg` where what it goes over, its first argument, is no list.
 pub fn prelude(alloc: Global) -> Result<Vec<Module>, Memory>
     ensures { IfOk result (λ modules. modules.items ≡ prelude_modules) }
 {

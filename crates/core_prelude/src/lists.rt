@@ -7,7 +7,8 @@ use hy_terms::{Atoms, Memory};
 use sqlite_items::Items;
 use std::alloc::{AllocError, Global};
 
-// The module's name, which is the first of its atoms.
+// The module's atoms, as places in `atom_names`.
+
 const LISTS: u32 = 0;
 
 const REVERSE: FunName = FunName { name: 1, arity: 1 };
@@ -16,9 +17,11 @@ const REVERSE_ONTO: FunName = FunName { name: 1, arity: 2 };
 
 const APPEND: FunName = FunName { name: 2, arity: 2 };
 
+const ERLANG: u32 = 4;
+
 const WALK: WalkAtoms = WalkAtoms {
     truth: 3,
-    erlang: 4,
+    erlang: ERLANG,
     error: 5,
     badarg: 6,
 };
@@ -49,7 +52,7 @@ fn reverse(alloc: Global) -> Result<Function, AllocError>
     })
 }
 
-// `'reverse'/2 = fun (X,Y) -> case X of <[]> .. -> Y <[H|T]> .. -> apply 'reverse'/2(T,[H|Y]) <Z> .. end`
+// `'reverse'/2 = fun (X,Y) -> WALK`, with the step `apply 'reverse'/2(T,[H|Y])`
 fn reverse_onto(alloc: Global) -> Result<Function, AllocError>
     ensures { IfOk result (λ f. slice_get the_module_lists.functions 1 ≡ Some f) }
 {
@@ -69,11 +72,11 @@ fn append(alloc: Global) -> Result<Function, AllocError>
     Ok(Function {
         name: APPEND,
         params: Items::from_slice(alloc, &[X, Y])?,
-        body: call(alloc, WALK.erlang, PLUS_PLUS, args)?,
+        body: call(alloc, ERLANG, PLUS_PLUS, args)?,
     })
 }
 
-/// The module `'lists'`.
+/// The module `'lists'`, with `'reverse'/1`, `'reverse'/2` and `'append'/2`.
 pub fn module_lists(alloc: Global) -> Result<Module, Memory>
     ensures { IfOk result (λ m. m ≡ the_module_lists) }
 {
