@@ -1,4 +1,4 @@
-ghost use Rattle.std.specs.Prelude.{◌≡◌, ◌≤◌, IfErr, OnOk, IsErrOf};
+ghost use Rattle.std.specs.Prelude.{◌≤◌, IfErr, OnOk, IsErrOf};
 ghost use Rattle.hybrid_run.specs.Faults.{IsOfOutput};
 ghost use Rattle.hybrid_run.specs.Headline.{canonical_texts};
 ghost use Rattle.outside.specs.Outside.{Appends, AppendsPrefix, Rises};

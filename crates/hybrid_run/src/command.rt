@@ -1,4 +1,4 @@
-ghost use Rattle.std.specs.Prelude.{◌≡◌, ◌↔◌, [], ◌∷◌, true, IsTrue, IfOk, MatchOption};
+ghost use Rattle.std.specs.Prelude.{◌≡◌, IfOk};
 ghost use Rattle.hybrid_run.specs.CommandLine.{NameFiles, is_option};
 ghost use Rattle.hybrid_run.specs.Line.{GivesCommand, GivesLine, command_in, ended, mode_named, no_words, with_any, with_value, with_word};
 

@@ -3,10 +3,10 @@ ghost use Rattle.hy_core.specs.declared.refusal.RefusalKind.{RefusalKind};
 ghost use Rattle.hy_core.specs.declared.tree.Module.{Module};
 ghost use Rattle.hybrid_run.specs.Answers.{Answers, IsUsageAnswer, outside_of};
 ghost use Rattle.hybrid_run.specs.CommandLine.{IsCommand, IsUsage, NameFiles, most_files};
-ghost use Rattle.hybrid_run.specs.Faults.{FailsWith, HasWritten, IfNamesFile, IsOfCommand, IsOfFiles, IsRefusal, IsSilent, fault_of_answer, refused_at, status_of_answer, status_of_fault};
+ghost use Rattle.hybrid_run.specs.Faults.{FailsWith, IfNamesFile, IsOfFiles, IsSilent, fault_of_answer, refused_at, status_of_answer, status_of_fault};
 ghost use Rattle.hybrid_run.specs.Headline.{Cut, Done, HasOtherProgram, HasProgram, IsAnswered, IsDoneStatus, IsSilentStatus};
 ghost use Rattle.hybrid_run.specs.Loading.{AreRead, AreTold, IsFirstRefused, IsRefusedWhereTold, PassBefore};
-ghost use Rattle.hybrid_run.specs.declared.command.Mode.{Mode as Modes};
+ghost use Rattle.hybrid_run.specs.declared.command.Mode.{Mode};
 ghost use Rattle.outside.specs.Outside.{Rises};
 
 use crate::command::{Command, read_command};
@@ -44,40 +44,40 @@ pub fn hybrid<R: Threads, S: Sources, K: Sink, G: Gate>(
     ensures usage_only { result.status ≡ 2 → IsUsage words.now }
 
     // Where the texts are told and are modules, the bytes appended are what the mode writes for these.
-    ensures done { (mode : Modes) (files : List (List ℕ)) (zs : List Module) → IsCommand words.now mode files → AreRead (S.told sources.old) files zs →
+    ensures done { (mode : Mode) (files : List (List ℕ)) (zs : List Module) → IsCommand words.now mode files → AreRead (S.told sources.old) files zs →
         IsDoneStatus result.status → Done mode zs (K.written sink.old) (K.written sink.new) result.status }
-    ensures accepted { (mode : Modes) (files : List (List ℕ)) → IsCommand words.now mode files → AreTold (S.told sources.old) files →
+    ensures accepted { (mode : Mode) (files : List (List ℕ)) → IsCommand words.now mode files → AreTold (S.told sources.old) files →
         IsDoneStatus result.status → HasProgram mode (S.told sources.old) files }
-    ensures cut { (mode : Modes) (files : List (List ℕ)) (zs : List Module) → IsCommand words.now mode files → AreRead (S.told sources.old) files zs →
+    ensures cut { (mode : Mode) (files : List (List ℕ)) (zs : List Module) → IsCommand words.now mode files → AreRead (S.told sources.old) files zs →
         result.status ≡ 7 → Cut mode zs (K.written sink.old) (K.written sink.new) }
 
     // Where a text is no module or the mode isn't built for the modules nothing is done, and status 3 comes for no other files.
-    ensures refuses { (mode : Modes) (files : List (List ℕ)) → IsCommand words.now mode files → AreTold (S.told sources.old) files →
+    ensures refuses { (mode : Mode) (files : List (List ℕ)) → IsCommand words.now mode files → AreTold (S.told sources.old) files →
         (HasProgram mode (S.told sources.old) files → ⊥) → Contains (3 ∷ 6 ∷ 8 ∷ []) result.status }
-    ensures refuses_only { (mode : Modes) (files : List (List ℕ)) → IsCommand words.now mode files →
+    ensures refuses_only { (mode : Mode) (files : List (List ℕ)) → IsCommand words.now mode files →
         result.status ≡ 3 → HasProgram mode (S.told sources.old) files → ⊥ }
 
     // Modules for which the mode isn't built are so answered, or a file can't be read, or memory runs out; and no others are.
-    ensures not_built { (mode : Modes) (files : List (List ℕ)) → IsCommand words.now mode files → HasOtherProgram mode (S.told sources.old) files →
+    ensures not_built { (mode : Mode) (files : List (List ℕ)) → IsCommand words.now mode files → HasOtherProgram mode (S.told sources.old) files →
         FailsWith TopFault.NotBuilt (length files) result.refused }
-    ensures not_built_only { (mode : Modes) (files : List (List ℕ)) → IsCommand words.now mode files → AreTold (S.told sources.old) files →
+    ensures not_built_only { (mode : Mode) (files : List (List ℕ)) → IsCommand words.now mode files → AreTold (S.told sources.old) files →
         result.refused ≡ Some TopFault.NotBuilt → HasOtherProgram mode (S.told sources.old) files }
 
     // The first text that is no module is refused with the kind and the place of what is wrong first in it.
-    ensures source { (mode : Modes) (files : List (List ℕ)) (file : ℕ) (kind : RefusalKind) (place : ℕ) → IsCommand words.now mode files →
+    ensures source { (mode : Mode) (files : List (List ℕ)) (file : ℕ) (kind : RefusalKind) (place : ℕ) → IsCommand words.now mode files →
         IsFirstRefused (S.told sources.old) files file kind place → FailsWith (refused_at file kind place) (file + 1) result.refused }
-    ensures source_only { (mode : Modes) (files : List (List ℕ)) (file : ℕ) (kind : RefusalKind) (place : ℕ) → IsCommand words.now mode files →
+    ensures source_only { (mode : Mode) (files : List (List ℕ)) (file : ℕ) (kind : RefusalKind) (place : ℕ) → IsCommand words.now mode files →
         result.refused ≡ Some (refused_at file kind place) → IsRefusedWhereTold (S.told sources.old) files file kind place }
-    ensures before { (mode : Modes) (files : List (List ℕ)) → IsCommand words.now mode files →
+    ensures before { (mode : Mode) (files : List (List ℕ)) → IsCommand words.now mode files →
         IfSome result.refused (λ fault. IfNamesFile fault (λ file. PassBefore (S.told sources.old) files file)) }
 
     // Faults of the outside show in its counts.
-    ensures read { (mode : Modes) (files : List (List ℕ)) (file : ℕ) (name : List ℕ) → IsCommand words.now mode files →
+    ensures read { (mode : Mode) (files : List (List ℕ)) (file : ℕ) (name : List ℕ) → IsCommand words.now mode files →
         result.refused ≡ Some (TopFault.Read file) → slice_get files file ≡ Some name → Rises (S.faults sources.old name) (S.faults sources.new name) }
     ensures write { result.status ≡ 7 → Rises (K.faults sink.old) (K.faults sink.new) }
 
     // Where nothing outside fails, each program is answered as it is, or memory runs out.
-    ensures complete { (mode : Modes) (files : List (List ℕ)) → IsCommand words.now mode files → AreTold (S.told sources.old) files →
+    ensures complete { (mode : Mode) (files : List (List ℕ)) → IsCommand words.now mode files → AreTold (S.told sources.old) files →
         ((name : List ℕ) → Contains files name → Rises (S.faults sources.old name) (S.faults sources.new name) → ⊥) →
         (Rises (K.faults sink.old) (K.faults sink.new) → ⊥) → IsAnswered mode (S.told sources.old) files result.status result.refused }
 
@@ -115,7 +115,7 @@ fn answer<S: Sources, K: Sink, G: Gate>(
     sink: &mut K,
     gate: &G,
 ) -> Result<u8, TopFault>
-    ensures answers { (mode : Modes) (files : List (List ℕ)) → IsCommand words.now mode files → Answers mode (S.told sources.old) files
+    ensures answers { (mode : Mode) (files : List (List ℕ)) → IsCommand words.now mode files → Answers mode (S.told sources.old) files
         (outside_of (K.written sink.old) (K.written sink.new) (S.faults sources.old) (S.faults sources.new)) result }
     ensures usage { IsUsage words.now → IsUsageAnswer result }
     ensures usage_only { IsErrOf result TopFault.Usage → IsUsage words.now }
