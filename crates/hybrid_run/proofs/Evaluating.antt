@@ -46,10 +46,6 @@ then_gives vs us v ending n ins k h =
     let all : List (Event Term) → Coming = λ evs. record { events = evs; calls = n; inputs = ins; end = outcome_of ending } in
     ap on h ∙ ap all (displays-append vs us)
 
--- a part that raises gives its end to the whole
-then_raises : (vs : List Value) (r : Reason) (n : ℕ) (ins : List (Input Term)) (k : Term → ℕ → List (Input Term) → Coming) → then_run (came vs (Raises r) n ins) (with_one k) ≡ came vs (Raises r) n ins
-then_raises vs r n ins k = refl
-
 text_at : (atoms : List (List ℕ)) (a : ℕ) (text : List ℕ) → slice_get atoms a ≡ Some text → text_of atoms a ≡ text
 text_at atoms a text h = ap (λ o. unwrap_or o []) h
 
@@ -93,15 +89,6 @@ do_raises x y bindings before now r (vs, p, first) = (
         ∙ ap (λ r. then_run r (with_one (λ t m jns. meaning program atoms names current pid locals (place_after names current locals (inside place) x) m (env_of bindings) y jns))) (first.means program atoms names current pid locals (inside place) calls inputs (do_parts x y built).0);
   },
 )
-
--- the body of a `let`, under its variable
-under_evaluates : (xs : List ℕ) (v : ℕ) (value : Value) (y : Expr) (bindings : List Binding) (mid now : List Value) (ending : Ending) → xs ≡ v ∷ [] → EvaluatesUnder xs value y bindings mid now ending → Evaluates y (bindings ++ record { var = v; value = value } ∷ []) mid now ending
-under_evaluates xs v value y bindings mid now ending is h = subst (λ (k : List ℕ). EvaluatesUnder k value y bindings mid now ending) is h
-
-one_variable : (xs : List ℕ) (value : Value) (y : Expr) (bindings : List Binding) (mid now : List Value) (ending : Ending) → EvaluatesUnder xs value y bindings mid now ending → (v : ℕ) × (xs ≡ v ∷ [])
-one_variable [] value y bindings mid now ending h = absurd h
-one_variable (v ∷ []) value y bindings mid now ending h = (v, refl)
-one_variable (v ∷ w ∷ xs) value y bindings mid now ending h = absurd h
 
 let_gives_one : (var : ℕ) (x y : Expr) (bindings : List Binding) (before mid now : List Value) (v : Value) (ending : Ending) → Evaluates x bindings before mid (Gives v) → Evaluates y (bindings ++ record { var = var; value = v } ∷ []) mid now ending → Evaluates (e.Let (var ∷ []) x y) bindings before now ending
 let_gives_one var x y bindings before mid now v ending (vs, p, first) (us, q, second) = (

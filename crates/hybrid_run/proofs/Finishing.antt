@@ -1,13 +1,13 @@
 -- The end of the program, by what is answered to its command.
-use Rattle.std.proofs.Common.{◌≡◌, ◌⊎◌, ℕ, suc, zero, ◌+◌, ◌<◌, List, [], ◌∷◌, length, slice_get, Option, Some, Ok, Err, inl, inr, refl, sym, ap, subst, arith}
+use Rattle.std.proofs.Common.{◌≡◌, ℕ, suc, zero, ◌+◌, ◌<◌, List, [], ◌∷◌, length, slice_get, Option, Some, Ok, Err, inl, inr, refl, sym, ap, subst, arith}
 use Rattle.std.proofs.lemmas.Option.{slice_get_within, get_or_from_slice_get}
-use Rattle.std.specs.Prelude.{Contains, IfOk, IfErr, IfSome, IsErrOf, MatchOption}
+use Rattle.std.specs.Prelude.{Contains, IfOk, IfErr, IfSome, IsErrOf}
 use Rattle.hy_core.specs.declared.refusal.RefusalKind.{RefusalKind}
 use Rattle.hy_core.specs.declared.tree.Module.{Module}
 use Rattle.hybrid_run.specs.Answers.{Answers, Outside, IsUsageAnswer}
 use Rattle.hybrid_run.specs.CommandLine.{IsCommand, IsUsage, NameFiles}
-use Rattle.hybrid_run.specs.Faults.{FailsWith, HasWritten, IfNamesFile, IsOfCommand, IsOfFiles, IsRefusal, IsSilent, fault_of_answer, refused_at, status_of_answer, status_of_fault}
-use Rattle.hybrid_run.specs.Headline.{Done, Cut, HasProgram, HasOtherProgram, IsAnswered, IsDoneStatus, IsSilentStatus}
+use Rattle.hybrid_run.specs.Faults.{FailsWith, HasWritten, IfNamesFile, IsOfCommand, IsOfFiles, IsRefusal, fault_of_answer, refused_at, status_of_answer}
+use Rattle.hybrid_run.specs.Headline.{Done, Cut, HasProgram, HasOtherProgram, IsAnswered, IsDoneStatus}
 use Rattle.hybrid_run.specs.Line.{GivesCommand, command_in}
 use Rattle.hybrid_run.specs.Loading.{Told, AreTold, AreRead, PassBefore, IsRefusedWhereTold}
 use Rattle.hybrid_run.specs.declared.command.Mode.{Mode}
@@ -159,24 +159,6 @@ small_status (suc (suc n)) h = absurd (omega arith)
 contains_at : (files : List (List ℕ)) (place : ℕ) (file : List ℕ) → slice_get files place ≡ Some file → Contains files file
 contains_at files place file is = (place, slice_get_within files place file is, get_or_from_slice_get files place file file is)
 
-silent_status : (answer : Answer) (Same : Type 0) → IfOk answer IsDoneStatus → IfErr answer (λ fault. IsSilent fault → Same) → IsSilentStatus (status_of_answer answer) → Same
-silent_status (Ok n) Same status h (zero, within, is) = absurd (omega (arith, status, is))
-silent_status (Ok n) Same status h (suc zero, within, is) = absurd (omega (arith, status, is))
-silent_status (Ok n) Same status h (suc (suc zero), within, is) = absurd (omega (arith, status, is))
-silent_status (Ok n) Same status h (suc (suc (suc k)), within, is) = absurd (omega arith)
-silent_status (Err f.Usage) Same status h is = h tt
-silent_status (Err (f.Read file)) Same status h is = h tt
-silent_status (Err (f.Refused file refused)) Same status h is = h tt
-silent_status (Err f.NotBuilt) Same status h is = h tt
-silent_status (Err f.Write) Same status h (zero, within, is) = absurd (omega (arith, is))
-silent_status (Err f.Write) Same status h (suc zero, within, is) = absurd (omega (arith, is))
-silent_status (Err f.Write) Same status h (suc (suc zero), within, is) = absurd (omega (arith, is))
-silent_status (Err f.Write) Same status h (suc (suc (suc k)), within, is) = absurd (omega arith)
-silent_status (Err f.Memory) Same status h (zero, within, is) = absurd (omega (arith, is))
-silent_status (Err f.Memory) Same status h (suc zero, within, is) = absurd (omega (arith, is))
-silent_status (Err f.Memory) Same status h (suc (suc zero), within, is) = absurd (omega (arith, is))
-silent_status (Err f.Memory) Same status h (suc (suc (suc k)), within, is) = absurd (omega arith)
-
 -- ---- what the program answers
 
 module _ (mode : Mode) (told : Told) (files : List (List ℕ)) (outside : Outside) (answer : Answer) (a : Answers mode told files outside answer) (status : IfOk answer IsDoneStatus) where
@@ -231,16 +213,6 @@ module _ (mode : Mode) (told : Told) (files : List (List ℕ)) (outside : Outsid
     source = λ file kind place first. can_read (refused_at file kind place) (file + 1) (fault_of_answer answer) (λ other is. never_read no_read other (answered_by answer (f.Read other) is)) (a.source file kind place first);
   }
 
-pub finish_write : (answer : Answer) (WriteFails : Type 0) → IfOk answer IsDoneStatus → (IsErrOf answer f.Write → WriteFails) → status_of_answer answer ≡ 7 → WriteFails
-finish_write answer WriteFails status write is = write (write_failed answer status is)
-
-pub finish_silent : (answer : Answer) (Same : Type 0) → IfOk answer IsDoneStatus → IfErr answer (λ fault. IsSilent fault → Same) → IsSilentStatus (status_of_answer answer) → Same
-finish_silent answer Same status silent is = silent_status answer Same status silent is
-
-pub finish_refused : (answer : Answer) → IfOk answer IsDoneStatus → MatchOption (fault_of_answer answer) (IsDoneStatus (status_of_answer answer)) (λ fault. status_of_answer answer ≡ status_of_fault fault)
-finish_refused (Ok n) status = status
-finish_refused (Err fault) status = refl
-
 pub finish_statuses : (answer : Answer) → IfOk answer IsDoneStatus → Contains (0 ∷ 1 ∷ 2 ∷ 3 ∷ 6 ∷ 7 ∷ 8 ∷ []) (status_of_answer answer)
 finish_statuses (Ok n) status = small_status n status
 finish_statuses (Err f.Usage) status = (2, omega arith, refl)
@@ -249,15 +221,6 @@ finish_statuses (Err (f.Refused file refused)) status = (3, omega arith, refl)
 finish_statuses (Err f.NotBuilt) status = (3, omega arith, refl)
 finish_statuses (Err f.Write) status = (5, omega arith, refl)
 finish_statuses (Err f.Memory) status = (6, omega arith, refl)
-
-pub finish_usage : (answer : Answer) → IsUsageAnswer answer → Contains (2 ∷ 8 ∷ []) (status_of_answer answer)
-finish_usage (Ok n) is = absurd is
-finish_usage (Err f.Usage) is = (0, omega arith, refl)
-finish_usage (Err (f.Read file)) is = absurd is
-finish_usage (Err (f.Refused file refused)) is = absurd is
-finish_usage (Err f.NotBuilt) is = absurd is
-finish_usage (Err f.Write) is = absurd is
-finish_usage (Err f.Memory) is = (1, omega arith, refl)
 
 -- status 2 is usage
 pub finish_usage_only : (answer : Answer) → IfOk answer IsDoneStatus → status_of_answer answer ≡ 2 → IsErrOf answer f.Usage

@@ -1,12 +1,12 @@
 -- Bytes written one piece after the other.
-use Rattle.std.proofs.Common.{◌≡◌, ℕ, ◌+◌, ◌<◌, ◌≤◌, List, [], ◌∷◌, ◌++◌, take, length, get_or, Option, None, Some, refl, sym, ap, subst, ◌∙◌, append_assoc, inl, inr, arith}
+use Rattle.std.proofs.Common.{◌≡◌, ℕ, ◌+◌, ◌<◌, List, [], ◌∷◌, ◌++◌, take, length, get_or, Option, None, Some, refl, sym, ap, subst, ◌∙◌, append_assoc}
 use Rattle.std.proofs.lemmas.List.{append-nil, take_more, take-append-drop}
 use Rattle.std.specs.Prelude.{drop}
 use Rattle.hy_core.specs.Canonical.{canonical_text}
 use Rattle.hy_core.specs.declared.tree.Module.{Module}
 use Rattle.hybrid_run.specs.Arithmetic.{value_text, printed_lines}
 use Rattle.hybrid_run.specs.Headline.{canonical_texts}
-use Rattle.outside.specs.Outside.{Appends, AppendsPrefix, Rises}
+use Rattle.outside.specs.Outside.{Appends, AppendsPrefix}
 use Rattle.hybrid_run.specs.declared.value.Value.{Value}
 
 pub appends_both : (a b c : Option (List ℕ)) (xs ys : List ℕ) → Appends a b xs → Appends b c ys → Appends a c (xs ++ ys)
@@ -28,10 +28,6 @@ prefix_behind (Some old) (Some mid) c xs ys p (part, rest, whole, now) =
 pub prefix_longer : (a c : Option (List ℕ)) (xs ys : List ℕ) → AppendsPrefix a c xs → AppendsPrefix a c (xs ++ ys)
 prefix_longer None c xs ys q = tt
 prefix_longer (Some old) c xs ys (part, rest, whole, now) = (part, rest ++ ys, sym (append_assoc part rest ys) ∙ ap (λ (k : List ℕ). k ++ ys) whole, now)
-
-pub rises_behind : (a b c : ℕ) → a ≤ b → Rises b c → Rises a c
-rises_behind a b c h (inl lt) = inl (omega arith)
-rises_behind a b c h (inr last) = inr last
 
 -- ---- pieces, one for each item
 

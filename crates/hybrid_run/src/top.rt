@@ -1,4 +1,4 @@
-ghost use Rattle.std.specs.Prelude.{◌≡◌, ◌+◌, ◌<◌, ◌≤◌, ℕ, List, [], ◌∷◌, length, slice_get, Contains, IfSome, Some, MatchOption, IfOk, IfErr, IsErrOf};
+ghost use Rattle.std.specs.Prelude.{◌≡◌, ◌+◌, ◌≤◌, ℕ, List, [], ◌∷◌, length, slice_get, Contains, IfSome, Some, MatchOption, IfOk, IfErr, IsErrOf};
 ghost use Rattle.hy_core.specs.declared.refusal.RefusalKind.{RefusalKind};
 ghost use Rattle.hy_core.specs.declared.tree.Module.{Module};
 ghost use Rattle.hybrid_run.specs.Answers.{Answers, IsUsageAnswer, outside_of};
