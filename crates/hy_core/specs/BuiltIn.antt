@@ -321,3 +321,7 @@ operation_in (r ∷ rs) name arity = if bytes_eq r.name name && (r.arity == arit
 -- the built-in of this name and number of arguments
 abbrev pub operation_of : List ℕ → ℕ → Option Operation
 operation_of = operation_in operations
+
+-- the built-in that a call of this module and name with so many arguments is, where it is one
+abbrev pub operation_named : List ℕ → List ℕ → ℕ → Option Operation
+operation_named module_name name arity = if bytes_eq module_name (codes "erlang") then operation_of name arity else None

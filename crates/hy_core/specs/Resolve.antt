@@ -17,7 +17,7 @@ use Rattle.hy_core.specs.declared.tree.Pattern as declared
 use Rattle.hy_core.specs.declared.tree.Pattern.TheOpen as p
 use Rattle.hy_core.specs.declared.tree.Pattern.TheOpen.{Pattern-F}
 use Rattle.hy_core.specs.declared.tree.Pattern.TheFolds.{fold-Pattern}
-use Rattle.hy_core.specs.BuiltIn.{Operation, Plain, SetsElement, Sends, Spawns, Displays, RaisesAs, operation_of}
+use Rattle.hy_core.specs.BuiltIn.{Operation, Plain, SetsElement, Sends, Spawns, Displays, RaisesAs, operation_named}
 use Rattle.hy_core.specs.Resolved as r
 use Rattle.hy_core.specs.Resolved.{Pattern, Patterns, NoPatterns, MorePatterns, Head, Timeout, AtOnce, Never, Expression, Expressions, NoExpressions, MoreExpressions, Clauses, NoClauses, MoreClauses, Functions, NoFunctions, MoreFunctions, FunctionTree, is_name}
 
@@ -196,6 +196,10 @@ is_same_variable _ _ = false
 abbrev pub are_two_or_three : List ℕ → Bool
 are_two_or_three xs = (length xs == 2) || (length xs == 3)
 
+-- the one primop of the subset, by its text and its number of arguments
+abbrev pub is_match_fail : List ℕ → ℕ → Bool
+is_match_fail text arity = bytes_eq text (codes "match_fail") && (arity == 1)
+
 module _ (names : Names) (current : ℕ) where
   -- the text of an atom, as a name
   abbrev pub is_called : ℕ → List ℕ → Bool
@@ -249,7 +253,7 @@ module _ (names : Names) (current : ℕ) where
 
   -- the built-in that a call names, where it is one
   abbrev pub erlang_operation : (m f arity : ℕ) → Option Operation
-  erlang_operation m f arity = if is_called m (codes "erlang") then operation_of (text_of names.atoms f) arity else None
+  erlang_operation m f arity = operation_named (text_of names.atoms m) (text_of names.atoms f) arity
 
   -- a call whose module and name are atoms; each of the two is a node
   abbrev pub call_shaped : Shape → Shape → List Part → Making Expression → Making Expression
@@ -257,10 +261,9 @@ module _ (names : Names) (current : ℕ) where
       at_node λ node. at_node λ a. at_node λ b. named_call node m f (erlang_operation m f (length args)) args
   call_shaped _ _ args otherwise = otherwise
 
-  -- the one primop of the subset
   abbrev pub primop_made : ℕ → List Part → Making Expression
   primop_made name args =
-      if is_called name (codes "match_fail") && (length args == 1)
+      if is_match_fail (text_of names.atoms name) (length args)
       then (at_node λ node. next (all_made (makings args)) λ es. made (r.Call r.MatchFail es))
       else refused args
 

@@ -4,6 +4,7 @@
 mod bif;
 mod class;
 mod end;
+mod fault;
 mod info;
 pub mod laws;
 mod limits;
@@ -17,6 +18,7 @@ mod tree;
 pub use bif::Bif;
 pub use class::Class;
 pub use end::{Cause, End};
+pub use fault::{Form, LintFault};
 pub use info::{FunInfo, SiteInfo, SiteKind};
 pub use limits::Limits;
 pub use refusal::RefusalKind;
