@@ -3,12 +3,14 @@
 use Rattle.std.specs.Prelude.{◌≡◌, ℕ, pos, ℤ, true, if◌then◌else◌, List, [], ◌∷◌, length, codes, Option, Some, None, Contains}
 use Rattle.hy_terms.specs.Naming.{text_of}
 use Rattle.hy_core.specs.BuiltIn.{Plain, Spawns, operation_named}
-use Rattle.hy_core.specs.Nodes.{AnExpr, FirstPattern, Place, Applied, TheTimeout, WholeGuard, Context, Node, node, patterns_of_first}
+use Rattle.hy_core.specs.Nodes.{AnExpr, FirstPattern, Context, Node, node, patterns_of_first}
 use Rattle.hy_core.specs.Resolve.{is_match_fail}
 use Rattle.hy_core.specs.SubPatterns.{clause_variables}
 use Rattle.hy_core.specs.declared.bif.Bif.{Bif}
 use Rattle.hy_core.specs.declared.fault.Form.{Form}
 use Rattle.hy_core.specs.declared.fault.Form.TheVariants as form
+use Rattle.hy_core.specs.declared.place.Place.{Place}
+use Rattle.hy_core.specs.declared.place.Place.TheVariants.{Applied, Timeout, WholeGuard}
 use Rattle.hy_core.specs.declared.tree.Clause.{Clause}
 use Rattle.hy_core.specs.declared.tree.Expr.{Expr}
 use Rattle.hy_core.specs.declared.tree.Expr.TheOpen as layer
@@ -82,7 +84,7 @@ module _ (m : Module) where
     a_catch : {c : Context} (body : Expr) → IsForbiddenForm (node (AnExpr (e.Catch body)) c) form.Catch
     a_primop : {c : Context} (name : ℕ) (args : List Expr) → (is_match_fail (text_of m.atoms name) (length args) ≡ true → ⊥)
         → IsForbiddenForm (node (AnExpr (e.Primop name args)) c) form.Primop
-    a_timeout : {c : Context} (x : Expr) → c.place ≡ TheTimeout → (IsTimeout x → ⊥) → IsForbiddenForm (node (AnExpr x) c) form.Timeout
+    a_timeout : {c : Context} (x : Expr) → c.place ≡ Timeout → (IsTimeout x → ⊥) → IsForbiddenForm (node (AnExpr x) c) form.Timeout
     a_spawn : {c : Context} (a b : ℕ) (args : List Expr) → operation_named (text_of m.atoms a) (text_of m.atoms b) (length args) ≡ Some Spawns → (IsSpawnable args → ⊥)
         → IsForbiddenForm (node (AnExpr (e.Call (e.Atom a) (e.Atom b) args)) c) form.Spawn
 

@@ -1,9 +1,11 @@
 -- The nodes of a function: its expressions and patterns in the order of the text, a node before its parts. A node's number is its place in this list.
 -- The forms and what they bind are those of the Core Erlang 1.0.3 report; which parts are nodes is this project's own.
 use Rattle.std.specs.Prelude.{ℕ, Bool, true, false, if◌then◌else◌, List, [], ◌∷◌, ◌++◌, map, length}
+use Rattle.hy_core.specs.declared.place.Place.{Place}
+use Rattle.hy_core.specs.declared.place.Place.TheVariants.{Anywhere, Applied, Timeout, WholeGuard}
 use Rattle.hy_core.specs.declared.tree.Clause.{Clause}
 use Rattle.hy_core.specs.declared.tree.Expr.{Expr}
-use Rattle.hy_core.specs.declared.tree.Expr.TheFolds.{para-Expr}
+use Rattle.hy_core.specs.declared.tree.Expr.TheFolds.{para-Expr, para-Clause, para-Function}
 use Rattle.hy_core.specs.declared.tree.Expr.TheOpen as layer
 use Rattle.hy_core.specs.declared.tree.Expr.TheOpen.{Expr-F, Clause-F, Function-F}
 use Rattle.hy_core.specs.declared.tree.Expr.TheVariants as e
@@ -11,7 +13,7 @@ use Rattle.hy_core.specs.declared.tree.Expr.TheViews.{out-Expr}
 use Rattle.hy_core.specs.declared.tree.FunName.{FunName}
 use Rattle.hy_core.specs.declared.tree.Function.{Function}
 use Rattle.hy_core.specs.declared.tree.Pattern.{Pattern}
-use Rattle.hy_core.specs.SubPatterns.{within_all, clause_variables}
+use Rattle.hy_core.specs.SubPatterns.{within, patterns_in, clause_variables}
 
 -- what stands at a node
 pub data Piece : Type 0 where
@@ -19,16 +21,6 @@ pub data Piece : Type 0 where
   APattern : Pattern → Piece
   -- the first pattern of a clause, which has these patterns
   FirstPattern : List Pattern → Piece
-
--- the places that ask more of an expression than the number of its values
-pub data Place : Type 0 where
-  Anywhere : Place
-  -- what an `apply` applies
-  Applied : Place
-  -- the timeout of a `receive`
-  TheTimeout : Place
-  -- the whole guard of a clause
-  WholeGuard : Place
 
 -- what is around a node
 pub record Context : Type 0 where
@@ -125,7 +117,7 @@ patterns_of_first (clause ∷ clauses) = length clause.patterns
 -- the patterns of a clause
 abbrev pub pattern_nodes : List Pattern → Nodes
 pattern_nodes [] c = []
-pattern_nodes (p ∷ ps) c = node (FirstPattern (p ∷ ps)) c ∷ map (λ q. node (APattern q) c) (within_all p ps)
+pattern_nodes (p ∷ ps) c = node (FirstPattern (p ∷ ps)) c ∷ map (λ q. node (APattern q) c) (within p ++ patterns_in ps)
 
 -- an expression, and then its parts
 abbrev pub at : Expr → Nodes → Nodes
@@ -151,7 +143,7 @@ expr_step (layer.Apply what args) = at (e.Apply what.0 (trees args)) λ c. what.
 expr_step (layer.Call m f args) = at (e.Call m.0 f.0 (trees args)) λ c. m.1 (for_one c) ++ f.1 (for_one c) ++ all_nodes args (for_one c)
 expr_step (layer.Primop name args) = at (e.Primop name (trees args)) λ c. all_nodes args (for_one c)
 expr_step (layer.Receive clauses timeout body) =
-    at (e.Receive (clauses_of clauses) timeout.0 body.0) λ c. all_nodes clauses (inside c) ++ timeout.1 (at_place TheTimeout c) ++ body.1 (inside c)
+    at (e.Receive (clauses_of clauses) timeout.0 body.0) λ c. all_nodes clauses (inside c) ++ timeout.1 (at_place Timeout c) ++ body.1 (inside c)
 expr_step (layer.Try value vars body catch_vars catch_body) =
     at (e.Try value.0 vars body.0 catch_vars catch_body.0) λ c. value.1 (for_values (length vars) c) ++ body.1 (binding vars c) ++ catch_body.1 (binding catch_vars c)
 expr_step (layer.Catch body) = at (e.Catch body.0) λ c. body.1 (for_one c)
@@ -170,6 +162,13 @@ function_step f c = f.body.1 (for_one (binding f.params c))
 -- the nodes of an expression
 abbrev pub nodes : Expr → Nodes
 nodes = para-Expr Nodes Nodes Nodes expr_step clause_step function_step
+
+-- the nodes of a clause, and those of a definition of a letrec
+abbrev pub clause_nodes : Clause → Nodes
+clause_nodes = para-Clause Nodes Nodes Nodes expr_step clause_step function_step
+
+abbrev pub definition_nodes : Function → Nodes
+definition_nodes = para-Function Nodes Nodes Nodes expr_step clause_step function_step
 
 -- the nodes of a function of a module
 abbrev pub nodes_of : Function → List Node

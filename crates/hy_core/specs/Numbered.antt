@@ -6,7 +6,7 @@ use Rattle.hy_core.specs.BuiltIn.{Operation, SetsElement, Spawns, operation_name
 use Rattle.hy_core.specs.Counting.{Counts, Numbering, made, next, at_node, behind, in_definition, all_made}
 use Rattle.hy_core.specs.Expressions.{function, clause_of}
 use Rattle.hy_core.specs.NameFaults.{modules_of}
-use Rattle.hy_core.specs.SubPatterns.{pattern_count}
+use Rattle.hy_core.specs.SubPatterns.{patterns_in}
 use Rattle.hy_core.specs.Tables.{program_atoms, renamed, renamed_name}
 use Rattle.hy_core.specs.declared.info.SiteInfo.{SiteInfo}
 use Rattle.hy_core.specs.declared.info.SiteKind.{SiteKind}
@@ -128,7 +128,7 @@ module _ (table : List (List ℕ)) (m : Module) where
   expr_step (layer.Fun params body) = part (at_node [] λ _. next body.1.made λ b. made (e.Fun params b))
 
   abbrev pub clause_step : Clause-F ExprPart ClausePart FunctionPart → Numbering Clause
-  clause_step c = behind (pattern_count c.patterns) (next c.guard.1.made λ g. next c.body.1.made λ b. made (clause_of (map numbered_pattern c.patterns) g b))
+  clause_step c = behind (length (patterns_in c.patterns)) (next c.guard.1.made λ g. next c.body.1.made λ b. made (clause_of (map numbered_pattern c.patterns) g b))
 
   abbrev pub function_step : Function-F ExprPart ClausePart FunctionPart → Numbering Function
   function_step f = in_definition (next f.body.1.made λ b. made (function (renamed_name table m f.name) f.params b))

@@ -1,6 +1,6 @@
 -- The patterns inside a pattern, and the variables that it binds, in the order of the text. Core Erlang 1.0.3 report; that nil at the end
 -- of a list notation is no pattern of its own is this project's.
-use Rattle.std.specs.Prelude.{ℕ, suc, Bool, true, false, if◌then◌else◌, List, [], ◌∷◌, ◌++◌, length}
+use Rattle.std.specs.Prelude.{ℕ, Bool, true, false, if◌then◌else◌, List, [], ◌∷◌, ◌++◌, map}
 use Rattle.hy_core.specs.declared.tree.Pattern.{Pattern}
 use Rattle.hy_core.specs.declared.tree.Pattern.TheFolds.{fold-Pattern, para-Pattern}
 use Rattle.hy_core.specs.declared.tree.Pattern.TheOpen as p
@@ -16,7 +16,7 @@ joined (xs ∷ xss) = xs ++ joined xss
 abbrev pub PatternPart : Type 0
 PatternPart = Pattern × List Pattern
 
--- patterns, each before those inside it
+-- parts, each before those inside it
 abbrev pub each_within : List PatternPart → List Pattern
 each_within [] = []
 each_within (part ∷ parts) = part.0 ∷ part.1 ++ each_within parts
@@ -39,10 +39,10 @@ within_step _ = []
 abbrev pub within : Pattern → List Pattern
 within = para-Pattern (List Pattern) within_step
 
--- the patterns inside the first of a clause's patterns, then the further ones with those inside them
-abbrev pub within_all : Pattern → List Pattern → List Pattern
-within_all first [] = within first
-within_all first (q ∷ qs) = within first ++ q ∷ within_all q qs
+-- patterns, each before those inside it
+abbrev pub patterns_in : List Pattern → List Pattern
+patterns_in [] = []
+patterns_in (q ∷ qs) = q ∷ within q ++ patterns_in qs
 
 abbrev pub variables_step : Pattern-F (List ℕ) → List ℕ
 variables_step (p.Var x) = x ∷ []
@@ -57,10 +57,4 @@ variables = fold-Pattern (List ℕ) variables_step
 
 -- the variables of a clause's patterns
 abbrev pub clause_variables : List Pattern → List ℕ
-clause_variables [] = []
-clause_variables (q ∷ qs) = variables q ++ clause_variables qs
-
--- how many patterns a clause has, those inside others counted
-abbrev pub pattern_count : List Pattern → ℕ
-pattern_count [] = 0
-pattern_count (q ∷ qs) = suc (length (within_all q qs))
+clause_variables patterns = joined (map variables patterns)

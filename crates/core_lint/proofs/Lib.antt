@@ -1,0 +1,4 @@
+pub mod BoundLemmas
+pub mod NodesLemmas
+pub mod PatternsLemmas
+pub mod WalkLemmas

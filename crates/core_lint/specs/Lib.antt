@@ -1,0 +1,4 @@
+pub mod Bound
+pub mod Parts
+pub mod PatternParts
+pub mod Walk

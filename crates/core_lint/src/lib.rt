@@ -1,0 +1,17 @@
+//! Finds the faults of a program.
+#![tactic(auto)]
+
+mod check;
+mod locals;
+mod patterns;
+mod position;
+mod scope;
+mod stop;
+mod walk;
+
+pub use check::Check;
+pub use locals::Locals;
+pub use position::{Position, Spot};
+pub use scope::Scope;
+pub use stop::{Found, Stop};
+pub use walk::walk_expr;
