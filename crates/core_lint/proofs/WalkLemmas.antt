@@ -5,14 +5,14 @@ use Rattle.hy_core.specs.Nodes.{APattern, Context, Node, Nodes, node, pattern_no
 use Rattle.hy_core.specs.declared.place.Place.TheVariants.{Anywhere, WholeGuard}
 use Rattle.hy_core.specs.SubPatterns.{within, patterns_in}
 use Rattle.hy_core.specs.declared.fault.Form.{Form}
-use Rattle.hy_core.specs.declared.tree.Expr.{Expr}
+use Rattle.hy_core.specs.declared.tree.Module.{Module}
 use Rattle.hy_core.specs.declared.tree.Pattern.{Pattern}
 use Rattle.core_lint.specs.declared.position.Position.{Position}
 use Rattle.core_lint.specs.declared.position.Spot.{Spot}
 use Rattle.core_lint.specs.declared.stop.Stop.{Stop}
 use Rattle.core_lint.specs.declared.stop.Stop.TheVariants as stop
 use Rattle.std.specs.declared.result.Result.TheVariants.{Ok, Err}
-use Rattle.core_lint.specs.Walk.{Outcome, Passed, Fails, looked, walked, form_at, context_of, IsPassed, Reports, Walks}
+use Rattle.core_lint.specs.Walk.{Forms, Outcome, Passed, Fails, looked, walked, form_at, context_of, IsPassed, Reports, Walks}
 
 -- behind what was passed
 abbrev further : (Node → Option Form) → Outcome → List Node → Outcome
@@ -62,10 +62,10 @@ stops_in check xs ys ns (Err e) s before after same is h =
     subst (λ k. Reports e (walked check k before.node)) (sym same) (stops check xs ys e before.node (subst (λ k. Reports k (walked check xs before.node)) (sym is) h))
 
 -- patterns that aren't the first of their clause never fail
-pub walked-patterns : (expr_form : Expr → Context → Option Form) (patterns_form : List Pattern → Option Form) (c : Context) (qs : List Pattern) (k : ℕ)
-    → walked (form_at expr_form patterns_form) (map (λ q. node (APattern q) c) qs) k ≡ Passed (k + length qs)
-walked-patterns expr_form patterns_form c [] k = ap Passed (omega arith)
-walked-patterns expr_form patterns_form c (q ∷ qs) k = walked-patterns expr_form patterns_form c qs (suc k) ∙ ap Passed (omega arith)
+pub walked-patterns : (forms : Forms) (m : Module) (c : Context) (qs : List Pattern) (k : ℕ)
+    → walked (form_at forms m) (map (λ q. node (APattern q) c) qs) k ≡ Passed (k + length qs)
+walked-patterns forms m c [] k = ap Passed (omega arith)
+walked-patterns forms m c (q ∷ qs) k = walked-patterns forms m c qs (suc k) ∙ ap Passed (omega arith)
 
 -- nodes that are passed before those that the answer tells of
 pub passed-then : (check : Node → Option Form) (xs ys : List Node) (k j i : ℕ) → walked check xs k ≡ Passed j → walked check ys j ≡ Passed i → walked check (xs ++ ys) k ≡ Passed i
@@ -84,12 +84,12 @@ pub left : {A : Type 0} (xs ys bound : List A) (depth : ℕ) → depth ≡ lengt
 left xs ys bound depth d b = ap (λ n. take n bound) d ∙ ap (take (length xs)) b ∙ take-append xs ys
 
 -- the patterns of a clause are passed where their form is none
-pub patterns-passed : (expr_form : Expr → Context → Option Form) (patterns_form : List Pattern → Option Form) (c : Context) (ps : List Pattern) (k j : ℕ)
-    → patterns_form ps ≡ None → j ≡ k + length (patterns_in ps) → walked (form_at expr_form patterns_form) (pattern_nodes ps c) k ≡ Passed j
-patterns-passed expr_form patterns_form c [] k j none to = ap Passed (omega (arith, to))
-patterns-passed expr_form patterns_form c (p ∷ ps) k j none to =
-    ap (λ o. looked o k (walked (form_at expr_form patterns_form) (map (λ q. node (APattern q) c) (within p ++ patterns_in ps)) (suc k))) none
-    ∙ walked-patterns expr_form patterns_form c (within p ++ patterns_in ps) (suc k)
+pub patterns-passed : (forms : Forms) (m : Module) (c : Context) (ps : List Pattern) (k j : ℕ)
+    → forms.of_patterns ps ≡ None → j ≡ k + length (patterns_in ps) → walked (form_at forms m) (pattern_nodes ps c) k ≡ Passed j
+patterns-passed forms m c [] k j none to = ap Passed (omega (arith, to))
+patterns-passed forms m c (p ∷ ps) k j none to =
+    ap (λ o. looked o k (walked (form_at forms m) (map (λ q. node (APattern q) c) (within p ++ patterns_in ps)) (suc k))) none
+    ∙ walked-patterns forms m c (within p ++ patterns_in ps) (suc k)
     ∙ ap Passed (omega (arith, to))
 
 -- the contexts of the guard and of the body of a clause, behind its patterns

@@ -1,4 +1,5 @@
 pub mod Bound
+pub mod First
 pub mod Parts
 pub mod PatternParts
 pub mod Walk

@@ -4,6 +4,8 @@ use Rattle.std.specs.declared.result.Result.TheVariants.{Ok, Err}
 use Rattle.hy_core.specs.Nodes.{AnExpr, APattern, FirstPattern, Context, Node}
 use Rattle.hy_core.specs.declared.fault.Form.{Form}
 use Rattle.hy_core.specs.declared.tree.Expr.{Expr}
+use Rattle.hy_core.specs.declared.tree.Function.{Function}
+use Rattle.hy_core.specs.declared.tree.Module.{Module}
 use Rattle.hy_core.specs.declared.tree.Pattern.{Pattern}
 use Rattle.core_lint.specs.declared.position.Position.{Position}
 use Rattle.core_lint.specs.declared.position.Spot.{Spot}
@@ -13,9 +15,15 @@ use Rattle.core_lint.specs.declared.stop.Stop.TheVariants as stop
 abbrev pub context_of : Position → Spot → Context
 context_of at spot = record { scope = at.scope; locals = at.locals; needs = spot.needs; in_guard = spot.in_guard; place = spot.place }
 
+-- what a check says: the form of the fault of an expression, of the patterns of a clause, and of a function at its place
+pub record Forms : Type 0 where
+  pub of_expr : Module → Expr → Context → Option Form
+  pub of_patterns : List Pattern → Option Form
+  pub of_function : Module → (place : ℕ) → Function → Option Form
+
 -- what a check says of a node. A pattern that isn't the first of its clause never fails
-abbrev pub form_at : (Expr → Context → Option Form) → (List Pattern → Option Form) → Node → Option Form
-form_at expr_form patterns_form n = elim n.piece [ AnExpr x ↦ expr_form x n.context | APattern p ↦ None | FirstPattern ps ↦ patterns_form ps ]
+abbrev pub form_at : Forms → Module → Node → Option Form
+form_at forms m n = elim n.piece [ AnExpr x ↦ forms.of_expr m x n.context | APattern p ↦ None | FirstPattern ps ↦ forms.of_patterns ps ]
 
 -- what comes of looking at nodes from a number on: the number behind them, or the first that fails
 pub data Outcome : Type 0 where

@@ -1,25 +1,34 @@
-ghost use Rattle.std.specs.Prelude.{◌≡◌, List, Option, IfOk};
-ghost use Rattle.core_lint.specs.Walk.{context_of};
-ghost use Rattle.hy_core.specs.Nodes.{Context};
-ghost use Rattle.hy_core.specs.declared.fault.Form.{Form as TheForm};
-ghost use Rattle.hy_core.specs.declared.tree.Expr.{Expr as AnyExpr};
-ghost use Rattle.hy_core.specs.declared.tree.Pattern.{Pattern as AnyPattern};
+ghost use Rattle.std.specs.Prelude.{◌≡◌, IfOk};
+ghost use Rattle.core_lint.specs.Walk.{Forms, context_of};
 
 use crate::position::{Position, Spot};
-use hy_core::{Expr, Form, Pattern};
+use hy_core::{Expr, Form, Function, Module, Pattern};
 use hy_terms::Memory;
 
-/// A fault that a node shows by itself.
+/// A kind of fault of functions and nodes.
 pub trait Check {
-    ghost expr_form: { Self → AnyExpr → Context → Option TheForm };
-
-    ghost patterns_form: { Self → List AnyPattern → Option TheForm };
+    ghost forms: { Self → Forms };
 
     /// The form of the fault of an expression, where it has one.
-    fn expr_fault(&self, expr: &Expr, at: &Position, spot: Spot) -> Result<Option<Form>, Memory>
-        ensures { IfOk result (λ form. form ≡ expr_form self.now expr.now (context_of at.now spot)) };
+    fn expr_fault(
+        &self,
+        names: &Module,
+        expr: &Expr,
+        at: &Position,
+        spot: Spot,
+    ) -> Result<Option<Form>, Memory>
+        ensures { IfOk result (λ form. form ≡ (forms self.now).of_expr names.now expr.now (context_of at.now spot)) };
 
     /// The form of the fault of the patterns of a clause, where they have one.
     fn patterns_fault(&self, patterns: &[Pattern]) -> Result<Option<Form>, Memory>
-        ensures { IfOk result (λ form. form ≡ patterns_form self.now patterns.now) };
+        ensures { IfOk result (λ form. form ≡ (forms self.now).of_patterns patterns.now) };
+
+    /// The form of the fault of a function at a place of its module, where it has one.
+    fn function_fault(
+        &self,
+        names: &Module,
+        place: usize,
+        function: &Function,
+    ) -> Result<Option<Form>, Memory>
+        ensures { IfOk result (λ form. form ≡ (forms self.now).of_function names.now place function.now) };
 }

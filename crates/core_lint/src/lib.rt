@@ -2,6 +2,7 @@
 #![tactic(auto)]
 
 mod check;
+mod first;
 mod locals;
 mod patterns;
 mod position;
@@ -10,6 +11,7 @@ mod stop;
 mod walk;
 
 pub use check::Check;
+pub use first::first_in_program;
 pub use locals::Locals;
 pub use position::{Position, Spot};
 pub use scope::Scope;

@@ -8,7 +8,7 @@ use crate::check::Check;
 use crate::patterns::{bind_patterns, pass_patterns};
 use crate::position::{Position, Spot};
 use crate::stop::{Found, Stop};
-use hy_core::{Clause, Expr, Function, Pattern, Place};
+use hy_core::{Clause, Expr, Function, Module, Pattern, Place};
 use hy_terms::Memory;
 
 // Goes to the next node.
@@ -20,10 +20,16 @@ fn pass(at: &mut Position) -> Result<(), Memory>
 }
 
 // Looks at the node of an expression.
-fn visit<C: Check>(check: &C, at: &mut Position, spot: Spot, expr: &Expr) -> Result<(), Stop>
-    ensures { Walks result (form_at (C.expr_form check.now) (C.patterns_form check.now)) (node (AnExpr expr.now) (context_of at.old spot) ∷ []) at.old at.new }
+fn visit<C: Check>(
+    check: &C,
+    names: &Module,
+    at: &mut Position,
+    spot: Spot,
+    expr: &Expr,
+) -> Result<(), Stop>
+    ensures { Walks result (form_at (C.forms check.now) names.now) (node (AnExpr expr.now) (context_of at.old spot) ∷ []) at.old at.new }
 {
-    if let Some(form) = check.expr_fault(expr, at, spot)? {
+    if let Some(form) = check.expr_fault(names, expr, at, spot)? {
         return Err(Stop::Found(Found {
             node: at.node,
             form,
@@ -36,11 +42,12 @@ fn visit<C: Check>(check: &C, at: &mut Position, spot: Spot, expr: &Expr) -> Res
 // Looks at the nodes of the patterns of a clause.
 fn visit_patterns<C: Check>(
     check: &C,
+    names: &Module,
     at: &mut Position,
     spot: Spot,
     patterns: &[Pattern],
 ) -> Result<(), Stop>
-    ensures { Walks result (form_at (C.expr_form check.now) (C.patterns_form check.now)) (pattern_nodes patterns.now (context_of at.old spot)) at.old at.new }
+    ensures { Walks result (form_at (C.forms check.now) names.now) (pattern_nodes patterns.now (context_of at.old spot)) at.old at.new }
 {
     if patterns.is_empty() {
         return Ok(());
@@ -74,74 +81,81 @@ fn needs_of_case(clauses: &[Clause]) -> usize
 #[cycle(walk)]
 pub fn walk_expr<C: Check>(
     check: &C,
+    names: &Module,
     at: &mut Position,
     spot: Spot,
     expr: &Expr,
 ) -> Result<(), Stop>
-    ensures { Walks result (form_at (C.expr_form check.now) (C.patterns_form check.now)) (nodes expr.now (context_of at.old spot)) at.old at.new }
+    ensures { Walks result (form_at (C.forms check.now) names.now) (nodes expr.now (context_of at.old spot)) at.old at.new }
 {
-    visit(check, at, spot, expr)?;
-    walk_parts(check, at, spot, expr)
+    visit(check, names, at, spot, expr)?;
+    walk_parts(check, names, at, spot, expr)
 }
 
 // Looks at the nodes of an expression behind its own.
 #[cycle(walk)]
-fn walk_parts<C: Check>(check: &C, at: &mut Position, spot: Spot, expr: &Expr) -> Result<(), Stop>
-    ensures { Walks result (form_at (C.expr_form check.now) (C.patterns_form check.now)) (part_nodes expr.now (context_of at.old spot)) at.old at.new }
+fn walk_parts<C: Check>(
+    check: &C,
+    names: &Module,
+    at: &mut Position,
+    spot: Spot,
+    expr: &Expr,
+) -> Result<(), Stop>
+    ensures { Walks result (form_at (C.forms check.now) names.now) (part_nodes expr.now (context_of at.old spot)) at.old at.new }
 {
     match expr {
         Expr::Int(_) | Expr::Atom(_) | Expr::Nil | Expr::Str(_) | Expr::Var(_) | Expr::Name(_) => {
             Ok(())
         }
-        Expr::Tuple { site: _, parts } => walk_each(check, at, spot, parts.as_slice()),
+        Expr::Tuple { site: _, parts } => walk_each(check, names, at, spot, parts.as_slice()),
         Expr::List {
             site: _,
             heads,
             tail,
         } => {
-            walk_each(check, at, spot, heads.as_slice())?;
-            walk_end(check, at, spot, tail.get())
+            walk_each(check, names, at, spot, heads.as_slice())?;
+            walk_end(check, names, at, spot, tail.get())
         }
-        Expr::Values(parts) => walk_each(check, at, spot, parts.as_slice()),
+        Expr::Values(parts) => walk_each(check, names, at, spot, parts.as_slice()),
         Expr::Let { vars, value, body } => {
-            walk_values(check, at, spot, vars.len(), value.get())?;
-            walk_under(check, at, spot, vars.as_slice(), body.get())
+            walk_values(check, names, at, spot, vars.len(), value.get())?;
+            walk_under(check, names, at, spot, vars.as_slice(), body.get())
         }
         Expr::Do { first, second } => {
-            walk_values(check, at, spot, 1, first.get())?;
-            walk_inside(check, at, spot, second.get())
+            walk_values(check, names, at, spot, 1, first.get())?;
+            walk_inside(check, names, at, spot, second.get())
         }
         Expr::Case { value, clauses } => {
             let needs = needs_of_case(clauses.as_slice());
-            walk_values(check, at, spot, needs, value.get())?;
-            walk_clauses(check, at, spot, clauses.as_slice())
+            walk_values(check, names, at, spot, needs, value.get())?;
+            walk_clauses(check, names, at, spot, clauses.as_slice())
         }
         Expr::Letrec { functions, body } => {
             let depth = at.locals.len();
             at.locals.define(functions.as_slice())?;
-            walk_functions(check, at, spot, functions.as_slice())?;
-            walk_inside(check, at, spot, body.get())?;
+            walk_functions(check, names, at, spot, functions.as_slice())?;
+            walk_inside(check, names, at, spot, body.get())?;
             at.locals.leave(depth);
             Ok(())
         }
         Expr::Apply { what, args } => {
-            walk_place(check, at, spot, Place::Applied, what.get())?;
-            walk_each(check, at, spot, args.as_slice())
+            walk_place(check, names, at, spot, Place::Applied, what.get())?;
+            walk_each(check, names, at, spot, args.as_slice())
         }
         Expr::Call { module, name, args } => {
-            walk_values(check, at, spot, 1, module.get())?;
-            walk_values(check, at, spot, 1, name.get())?;
-            walk_each(check, at, spot, args.as_slice())
+            walk_values(check, names, at, spot, 1, module.get())?;
+            walk_values(check, names, at, spot, 1, name.get())?;
+            walk_each(check, names, at, spot, args.as_slice())
         }
-        Expr::Primop { name: _, args } => walk_each(check, at, spot, args.as_slice()),
+        Expr::Primop { name: _, args } => walk_each(check, names, at, spot, args.as_slice()),
         Expr::Receive {
             clauses,
             timeout,
             body,
         } => {
-            walk_clauses(check, at, spot, clauses.as_slice())?;
-            walk_place(check, at, spot, Place::Timeout, timeout.get())?;
-            walk_inside(check, at, spot, body.get())
+            walk_clauses(check, names, at, spot, clauses.as_slice())?;
+            walk_place(check, names, at, spot, Place::Timeout, timeout.get())?;
+            walk_inside(check, names, at, spot, body.get())
         }
         Expr::Try {
             value,
@@ -150,13 +164,27 @@ fn walk_parts<C: Check>(check: &C, at: &mut Position, spot: Spot, expr: &Expr) -
             catch_vars,
             catch_body,
         } => {
-            walk_values(check, at, spot, vars.len(), value.get())?;
-            walk_under(check, at, spot, vars.as_slice(), body.get())?;
-            walk_under(check, at, spot, catch_vars.as_slice(), catch_body.get())
+            walk_values(check, names, at, spot, vars.len(), value.get())?;
+            walk_under(check, names, at, spot, vars.as_slice(), body.get())?;
+            walk_under(
+                check,
+                names,
+                at,
+                spot,
+                catch_vars.as_slice(),
+                catch_body.get(),
+            )
         }
-        Expr::Catch(body) => walk_values(check, at, spot, 1, body.get()),
+        Expr::Catch(body) => walk_values(check, names, at, spot, 1, body.get()),
         Expr::Fun { params, body } => {
-            walk_under(check, at, spot.for_values(1), params.as_slice(), body.get())
+            walk_under(
+                check,
+                names,
+                at,
+                spot.for_values(1),
+                params.as_slice(),
+                body.get(),
+            )
         }
     }
 }
@@ -165,58 +193,78 @@ fn walk_parts<C: Check>(check: &C, at: &mut Position, spot: Spot, expr: &Expr) -
 #[cycle(walk)]
 fn walk_values<C: Check>(
     check: &C,
+    names: &Module,
     at: &mut Position,
     spot: Spot,
     needs: usize,
     expr: &Expr,
 ) -> Result<(), Stop>
-    ensures { Walks result (form_at (C.expr_form check.now) (C.patterns_form check.now)) (nodes expr.now (for_values needs (context_of at.old spot))) at.old at.new }
+    ensures { Walks result (form_at (C.forms check.now) names.now) (nodes expr.now (for_values needs (context_of at.old spot))) at.old at.new }
 {
-    walk_expr(check, at, spot.for_values(needs), expr)
+    walk_expr(check, names, at, spot.for_values(needs), expr)
 }
 
 // Looks at the nodes of an expression at a place of its own kind.
 #[cycle(walk)]
 fn walk_place<C: Check>(
     check: &C,
+    names: &Module,
     at: &mut Position,
     spot: Spot,
     place: Place,
     expr: &Expr,
 ) -> Result<(), Stop>
-    ensures { Walks result (form_at (C.expr_form check.now) (C.patterns_form check.now)) (nodes expr.now (at_place place (context_of at.old spot))) at.old at.new }
+    ensures { Walks result (form_at (C.forms check.now) names.now) (nodes expr.now (at_place place (context_of at.old spot))) at.old at.new }
 {
-    walk_expr(check, at, spot.at_place(place), expr)
+    walk_expr(check, names, at, spot.at_place(place), expr)
 }
 
 // Looks at the nodes of an expression in the place of the whole.
 #[cycle(walk)]
-fn walk_inside<C: Check>(check: &C, at: &mut Position, spot: Spot, expr: &Expr) -> Result<(), Stop>
-    ensures { Walks result (form_at (C.expr_form check.now) (C.patterns_form check.now)) (nodes expr.now (inside (context_of at.old spot))) at.old at.new }
+fn walk_inside<C: Check>(
+    check: &C,
+    names: &Module,
+    at: &mut Position,
+    spot: Spot,
+    expr: &Expr,
+) -> Result<(), Stop>
+    ensures { Walks result (form_at (C.forms check.now) names.now) (nodes expr.now (inside (context_of at.old spot))) at.old at.new }
 {
-    walk_expr(check, at, spot.inside(), expr)
+    walk_expr(check, names, at, spot.inside(), expr)
 }
 
 // Looks at the nodes of expressions that need one value each.
 #[cycle(walk)]
-fn walk_each<C: Check>(check: &C, at: &mut Position, spot: Spot, exprs: &[Expr]) -> Result<(), Stop>
-    ensures { Walks result (form_at (C.expr_form check.now) (C.patterns_form check.now)) (each_node nodes exprs.now (for_one (context_of at.old spot))) at.old at.new }
+fn walk_each<C: Check>(
+    check: &C,
+    names: &Module,
+    at: &mut Position,
+    spot: Spot,
+    exprs: &[Expr],
+) -> Result<(), Stop>
+    ensures { Walks result (form_at (C.forms check.now) names.now) (each_node nodes exprs.now (for_one (context_of at.old spot))) at.old at.new }
 {
     for expr in exprs {
-        walk_values(check, at, spot, 1, expr)?;
+        walk_values(check, names, at, spot, 1, expr)?;
     }
     Ok(())
 }
 
 // Looks at the nodes of the tail of a list notation.
 #[cycle(walk)]
-fn walk_end<C: Check>(check: &C, at: &mut Position, spot: Spot, tail: &Expr) -> Result<(), Stop>
-    ensures { Walks result (form_at (C.expr_form check.now) (C.patterns_form check.now)) (end_nodes tail.now (for_one (context_of at.old spot))) at.old at.new }
+fn walk_end<C: Check>(
+    check: &C,
+    names: &Module,
+    at: &mut Position,
+    spot: Spot,
+    tail: &Expr,
+) -> Result<(), Stop>
+    ensures { Walks result (form_at (C.forms check.now) names.now) (end_nodes tail.now (for_one (context_of at.old spot))) at.old at.new }
 {
     if is_nil(tail) {
         Ok(())
     } else {
-        walk_values(check, at, spot, 1, tail)
+        walk_values(check, names, at, spot, 1, tail)
     }
 }
 
@@ -224,16 +272,17 @@ fn walk_end<C: Check>(check: &C, at: &mut Position, spot: Spot, tail: &Expr) -> 
 #[cycle(walk)]
 fn walk_under<C: Check>(
     check: &C,
+    names: &Module,
     at: &mut Position,
     spot: Spot,
     variables: &[u32],
     expr: &Expr,
 ) -> Result<(), Stop>
-    ensures { Walks result (form_at (C.expr_form check.now) (C.patterns_form check.now)) (nodes expr.now (binding variables.now (context_of at.old spot))) at.old at.new }
+    ensures { Walks result (form_at (C.forms check.now) names.now) (nodes expr.now (binding variables.now (context_of at.old spot))) at.old at.new }
 {
     let depth = at.scope.len();
     at.scope.bind_all(variables)?;
-    walk_inside(check, at, spot, expr)?;
+    walk_inside(check, names, at, spot, expr)?;
     at.scope.leave(depth);
     Ok(())
 }
@@ -242,14 +291,15 @@ fn walk_under<C: Check>(
 #[cycle(walk)]
 fn walk_clauses<C: Check>(
     check: &C,
+    names: &Module,
     at: &mut Position,
     spot: Spot,
     clauses: &[Clause],
 ) -> Result<(), Stop>
-    ensures { Walks result (form_at (C.expr_form check.now) (C.patterns_form check.now)) (each_node clause_nodes clauses.now (inside (context_of at.old spot))) at.old at.new }
+    ensures { Walks result (form_at (C.forms check.now) names.now) (each_node clause_nodes clauses.now (inside (context_of at.old spot))) at.old at.new }
 {
     for clause in clauses {
-        walk_clause(check, at, spot.inside(), clause)?;
+        walk_clause(check, names, at, spot.inside(), clause)?;
     }
     Ok(())
 }
@@ -258,17 +308,18 @@ fn walk_clauses<C: Check>(
 #[cycle(walk)]
 fn walk_clause<C: Check>(
     check: &C,
+    names: &Module,
     at: &mut Position,
     spot: Spot,
     clause: &Clause,
 ) -> Result<(), Stop>
-    ensures { Walks result (form_at (C.expr_form check.now) (C.patterns_form check.now)) (clause_nodes clause.now (context_of at.old spot)) at.old at.new }
+    ensures { Walks result (form_at (C.forms check.now) names.now) (clause_nodes clause.now (context_of at.old spot)) at.old at.new }
 {
-    visit_patterns(check, at, spot, clause.patterns.as_slice())?;
+    visit_patterns(check, names, at, spot, clause.patterns.as_slice())?;
     let depth = at.scope.len();
     bind_patterns(&mut at.scope, clause.patterns.as_slice())?;
-    walk_expr(check, at, spot.guarding(), &clause.guard)?;
-    walk_inside(check, at, spot, &clause.body)?;
+    walk_expr(check, names, at, spot.guarding(), &clause.guard)?;
+    walk_inside(check, names, at, spot, &clause.body)?;
     at.scope.leave(depth);
     Ok(())
 }
@@ -277,15 +328,17 @@ fn walk_clause<C: Check>(
 #[cycle(walk)]
 fn walk_functions<C: Check>(
     check: &C,
+    names: &Module,
     at: &mut Position,
     spot: Spot,
     functions: &[Function],
 ) -> Result<(), Stop>
-    ensures { Walks result (form_at (C.expr_form check.now) (C.patterns_form check.now)) (each_node definition_nodes functions.now (inside (context_of at.old spot))) at.old at.new }
+    ensures { Walks result (form_at (C.forms check.now) names.now) (each_node definition_nodes functions.now (inside (context_of at.old spot))) at.old at.new }
 {
     for function in functions {
         walk_under(
             check,
+            names,
             at,
             spot.for_values(1),
             function.params.as_slice(),

@@ -79,7 +79,7 @@ pub walk_parts-returns-in_err-walk_values-in-Call : goal.walk_parts-returns-in_e
 walk_parts-returns-in_err-walk_values-in-Call t g c =
     let k = context_of c.args.at.now c.args.spot in
     let shape = shaped c.in-Call.is (outs-Call _ _ _) k in
-    stops_in _ (nodes c.get-in-Call.result.now (for_one k)) (nodes c.in-Call.name (for_one k) ++ each_node nodes c.in-Call.args (for_one k)) _ _ _ _ _ (shape ∙ append_assoc (nodes c.in-Call.module (for_one k)) (nodes c.in-Call.name (for_one k)) (each_node nodes c.in-Call.args (for_one k)) ∙ cc) c.from_residual-in_err-walk_values-in-Call.ensures.1 c.in_err-walk_values-in-Call.ensures
+    stops_in _ (nodes c.get-in-Call.result.now (for_one k)) (nodes c.in-Call.name (for_one k) ++ each_node nodes c.in-Call.args (for_one k)) _ _ _ _ _ (shape ∙ append_assoc (nodes c.in-Call.«module» (for_one k)) (nodes c.in-Call.name (for_one k)) (each_node nodes c.in-Call.args (for_one k)) ∙ cc) c.from_residual-in_err-walk_values-in-Call.ensures.1 c.in_err-walk_values-in-Call.ensures
 
 pub walk_parts-returns-in_err-walk_values-in-Call-2 : goal.walk_parts-returns-in_err-walk_values-in-Call-2
 walk_parts-returns-in_err-walk_values-in-Call-2 t g c =
@@ -160,7 +160,7 @@ walk_parts-returns-in_ok-walk_inside-in-Letrec t g c =
     let whole = each_node definition_nodes c.as_slice-in-Letrec-2.result.now (inside within) ++ nodes c.get-in-Letrec.result.now (inside within) in
     let same : part_nodes c.args.expr.now k ≡ whole = shape ∙ cc in
     record {
-      passed = ap (λ ns. walked (form_at (t.C.Check.expr_form c.args.check.now) (t.C.Check.patterns_form c.args.check.now)) ns c.args.at.now.node) same ∙ both.passed;
+      passed = ap (λ ns. walked (form_at (t.C.Check.forms c.args.check.now) c.args.names.now) ns c.args.at.now.node) same ∙ both.passed;
       same_scope = both.same_scope;
       same_locals = c.leave.ensures ∙ left c.args.at.now.locals _ _ c.len-depth.result c.len-depth.ensures (both.same_locals ∙ defined);
     }
@@ -170,7 +170,7 @@ walk_each-loop-expr-preserved t g c =
     let k = context_of c.args.at.now c.args.spot in
     let xs = c.args.exprs.now in
     let x = c.expr-item.result in
-    let check = form_at (t.C.Check.expr_form c.args.check.now) (t.C.Check.patterns_form c.args.check.now) in
+    let check = form_at (t.C.Check.forms c.args.check.now) c.args.names.now in
     over_same check _ _ (Ok tt) c.args.at.now c.walk_values.new.at (each_node-take nodes xs c.loop-expr.expr-index x (for_one k) c.loop-expr-test.true c.expr-item.is) (then_part (λ k. nodes x (for_one k)) c.args.spot (Ok tt) c.walk_values.new.at c.loop-expr.invariant c.in_ok-walk_values.ensures)
 
 pub walk_each-returns-in_err-walk_values : goal.walk_each-returns-in_err-walk_values
@@ -178,7 +178,7 @@ walk_each-returns-in_err-walk_values t g c =
     let k = context_of c.args.at.now c.args.spot in
     let xs = c.args.exprs.now in
     let x = c.expr-item.result in
-    let check = form_at (t.C.Check.expr_form c.args.check.now) (t.C.Check.patterns_form c.args.check.now) in
+    let check = form_at (t.C.Check.forms c.args.check.now) c.args.names.now in
     let both = then_part (λ k. nodes x (for_one k)) c.args.spot (Err c.in_err-walk_values.field-0.0) c.walk_values.new.at c.loop-expr.invariant c.in_err-walk_values.ensures in
     stops_in check _ (each_node nodes (drop (c.loop-expr.expr-index + 1) xs) (for_one k)) _ _ _ _ _ (each_node-rest nodes xs c.loop-expr.expr-index x (for_one k) c.loop-expr-test.true c.expr-item.is) c.from_residual.ensures.1 both
 
@@ -187,7 +187,7 @@ walk_clauses-loop-clause-preserved t g c =
     let k = context_of c.args.at.now c.args.spot in
     let xs = c.args.clauses.now in
     let x = c.clause-item.result in
-    let check = form_at (t.C.Check.expr_form c.args.check.now) (t.C.Check.patterns_form c.args.check.now) in
+    let check = form_at (t.C.Check.forms c.args.check.now) c.args.names.now in
     let passed = subst (λ spot. IsPassed check (clause_nodes x (context_of c.loop-clause.at spot)) c.loop-clause.at c.walk_clause.new.at) c.inside.ensures c.in_ok-walk_clause.ensures in
     over_same check _ _ (Ok tt) c.args.at.now c.walk_clause.new.at (each_node-take clause_nodes xs c.loop-clause.clause-index x (inside k) c.loop-clause-test.true c.clause-item.is) (then_part (λ k. clause_nodes x (inside k)) c.args.spot (Ok tt) c.walk_clause.new.at c.loop-clause.invariant passed)
 
@@ -196,7 +196,7 @@ walk_clauses-returns-in_err-walk_clause t g c =
     let k = context_of c.args.at.now c.args.spot in
     let xs = c.args.clauses.now in
     let x = c.clause-item.result in
-    let check = form_at (t.C.Check.expr_form c.args.check.now) (t.C.Check.patterns_form c.args.check.now) in
+    let check = form_at (t.C.Check.forms c.args.check.now) c.args.names.now in
     let stopped = subst (λ spot. Reports c.in_err-walk_clause.field-0.0 (walked check (clause_nodes x (context_of c.loop-clause.at spot)) c.loop-clause.at.node)) c.inside.ensures c.in_err-walk_clause.ensures in
     let both = then_part (λ k. clause_nodes x (inside k)) c.args.spot (Err c.in_err-walk_clause.field-0.0) c.walk_clause.new.at c.loop-clause.invariant stopped in
     stops_in check _ (each_node clause_nodes (drop (c.loop-clause.clause-index + 1) xs) (inside k)) _ _ _ _ _ (each_node-rest clause_nodes xs c.loop-clause.clause-index x (inside k) c.loop-clause-test.true c.clause-item.is) c.from_residual.ensures.1 both
@@ -206,7 +206,7 @@ walk_functions-loop-function-preserved t g c =
     let k = context_of c.args.at.now c.args.spot in
     let xs = c.args.functions.now in
     let x = c.function-item.result in
-    let check = form_at (t.C.Check.expr_form c.args.check.now) (t.C.Check.patterns_form c.args.check.now) in
+    let check = form_at (t.C.Check.forms c.args.check.now) c.args.names.now in
     let m = c.loop-function.at in
     let same : nodes x.body (binding c.as_slice.result.now (context_of m c.for_values.result)) ≡ definition_nodes x (inside (context_of m c.args.spot)) =
     ap (λ spot. nodes x.body (binding c.as_slice.result.now (context_of m spot))) c.for_values.ensures
@@ -220,7 +220,7 @@ walk_functions-returns-in_err-walk_under t g c =
     let k = context_of c.args.at.now c.args.spot in
     let xs = c.args.functions.now in
     let x = c.function-item.result in
-    let check = form_at (t.C.Check.expr_form c.args.check.now) (t.C.Check.patterns_form c.args.check.now) in
+    let check = form_at (t.C.Check.forms c.args.check.now) c.args.names.now in
     let m = c.loop-function.at in
     let same : nodes x.body (binding c.as_slice.result.now (context_of m c.for_values.result)) ≡ definition_nodes x (inside (context_of m c.args.spot)) =
     ap (λ spot. nodes x.body (binding c.as_slice.result.now (context_of m spot))) c.for_values.ensures
@@ -243,7 +243,7 @@ walk_clause-returns-in_err-walk_expr t g c =
     let k = context_of c.args.at.now c.args.spot in
     let x = c.args.clause.now in
     let variables = clause_variables x.patterns in
-    let check = form_at (t.C.Check.expr_form c.args.check.now) (t.C.Check.patterns_form c.args.check.now) in
+    let check = form_at (t.C.Check.forms c.args.check.now) c.args.names.now in
     let patterns = c.in_ok-visit_patterns.ensures in
     let bound = c.in_ok-bind_patterns.ensures ∙ ap (λ ps. c.visit_patterns.new.at.scope ++ clause_variables ps) c.as_slice-2.ensures in
     let same = guard_context c.args.spot c.guarding.result c.bind_patterns.new.scope variables patterns bound c.guarding.ensures in
@@ -256,7 +256,7 @@ walk_clause-returns-in_err-walk_inside t g c =
     let k = context_of c.args.at.now c.args.spot in
     let x = c.args.clause.now in
     let variables = clause_variables x.patterns in
-    let check = form_at (t.C.Check.expr_form c.args.check.now) (t.C.Check.patterns_form c.args.check.now) in
+    let check = form_at (t.C.Check.forms c.args.check.now) c.args.names.now in
     let patterns = c.in_ok-visit_patterns.ensures in
     let bound = c.in_ok-bind_patterns.ensures ∙ ap (λ ps. c.visit_patterns.new.at.scope ++ clause_variables ps) c.as_slice-2.ensures in
     let guards = c.in_ok-walk_expr.ensures in
@@ -274,7 +274,7 @@ walk_clause-returns t g c =
     let k = context_of c.args.at.now c.args.spot in
     let x = c.args.clause.now in
     let variables = clause_variables x.patterns in
-    let check = form_at (t.C.Check.expr_form c.args.check.now) (t.C.Check.patterns_form c.args.check.now) in
+    let check = form_at (t.C.Check.forms c.args.check.now) c.args.names.now in
     let patterns = c.in_ok-visit_patterns.ensures in
     let bound = c.in_ok-bind_patterns.ensures ∙ ap (λ ps. c.visit_patterns.new.at.scope ++ clause_variables ps) c.as_slice-2.ensures in
     let guards = c.in_ok-walk_expr.ensures in

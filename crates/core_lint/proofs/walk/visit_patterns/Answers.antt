@@ -5,9 +5,9 @@ use Rattle.core_lint.proofs.walk.visit_patterns.Goals as goal
 
 pub returns : goal.returns
 returns g c =
-    let none : g.C.Check.patterns_form c.args.check.now c.args.patterns.now ≡ None = search rules in
+    let none : (g.C.Check.forms c.args.check.now).of_patterns c.args.patterns.now ≡ None = search rules in
     record {
-      passed = patterns-passed (g.C.Check.expr_form c.args.check.now) (g.C.Check.patterns_form c.args.check.now) (context_of c.args.at.now c.args.spot) c.args.patterns.now c.args.at.now.node c.pass_patterns.new.node none (search rules);
+      passed = patterns-passed (g.C.Check.forms c.args.check.now) c.args.names.now (context_of c.args.at.now c.args.spot) c.args.patterns.now c.args.at.now.node c.pass_patterns.new.node none (search rules);
       same_scope = refl;
       same_locals = refl;
     }

@@ -1,0 +1,37 @@
+-- The first fault that a check finds in the functions of the given modules, each function by itself and then its nodes.
+use Rattle.std.specs.Prelude.{◌≡◌, ℕ, suc, List, [], ◌∷◌, Option, Some, None}
+use Rattle.hy_core.specs.Faults.{fault_of, IsFunction, IsUpTo, order_of}
+use Rattle.hy_core.specs.Nodes.{Node, nodes_of}
+use Rattle.hy_core.specs.declared.fault.Form.{Form}
+use Rattle.hy_core.specs.declared.fault.LintFault.{LintFault}
+use Rattle.hy_core.specs.declared.tree.Function.{Function}
+use Rattle.hy_core.specs.declared.tree.Module.{Module}
+use Rattle.core_lint.specs.Walk.{Forms, Outcome, Passed, Fails, form_at, looked, walked}
+use Rattle.core_lint.specs.declared.stop.Found.{Found}
+
+-- what comes of looking at a function
+abbrev pub function_outcome : Forms → Module → (place : ℕ) → Function → Outcome
+function_outcome forms m place f = looked (forms.of_function m place f) 0 (walked (form_at forms m) (nodes_of f) 0)
+
+-- an answer tells of an outcome
+abbrev pub Tells : Option Found → Outcome → Type 0
+Tells None outcome = (next : ℕ) × (outcome ≡ Passed next)
+Tells (Some found) outcome = outcome ≡ Fails found.node found.form
+
+abbrev pub fault_or : (kind i j : ℕ) → Outcome → Option LintFault → Option LintFault
+fault_or kind i j (Passed next) later = later
+fault_or kind i j (Fails k form) later = Some (fault_of kind i j k form)
+
+-- the first fault in functions of the module at place i, from place j on
+abbrev pub first_in_functions : Forms → (kind i : ℕ) → Module → (j : ℕ) → List Function → Option LintFault
+first_in_functions forms kind i m j [] = None
+first_in_functions forms kind i m j (f ∷ fs) = fault_or kind i j (function_outcome forms m j f) (first_in_functions forms kind i m (suc j) fs)
+
+abbrev pub or_later : Option LintFault → Option LintFault → Option LintFault
+or_later None later = later
+or_later (Some fault) later = Some fault
+
+-- the first fault in modules, from place i on
+abbrev pub first_in_modules : Forms → (kind i : ℕ) → List Module → Option LintFault
+first_in_modules forms kind i [] = None
+first_in_modules forms kind i (m ∷ ms) = or_later (first_in_functions forms kind i m 0 m.functions) (first_in_modules forms kind (suc i) ms)
