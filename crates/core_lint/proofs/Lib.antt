@@ -1,4 +1,5 @@
 pub mod BoundLemmas
+pub mod FirstLemmas
 pub mod NodesLemmas
 pub mod PatternsLemmas
 pub mod WalkLemmas

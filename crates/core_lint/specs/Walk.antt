@@ -1,5 +1,5 @@
 -- Looking at nodes one after another, up to the first at which a check fails. This project's own.
-use Rattle.std.specs.Prelude.{◌≡◌, ℕ, suc, List, [], ◌∷◌, ◌++◌, Option, Some, None, Result}
+use Rattle.std.specs.Prelude.{◌≡◌, ℕ, suc, Bool, List, [], ◌∷◌, ◌++◌, Option, Some, None, Result}
 use Rattle.std.specs.declared.result.Result.TheVariants.{Ok, Err}
 use Rattle.hy_core.specs.Nodes.{AnExpr, APattern, FirstPattern, Context, Node}
 use Rattle.hy_core.specs.declared.fault.Form.{Form}
@@ -15,11 +15,11 @@ use Rattle.core_lint.specs.declared.stop.Stop.TheVariants as stop
 abbrev pub context_of : Position → Spot → Context
 context_of at spot = record { scope = at.scope; locals = at.locals; needs = spot.needs; in_guard = spot.in_guard; place = spot.place }
 
--- what a check says: the form of the fault of an expression, of the patterns of a clause, and of a function at its place
+-- what a check says: the form of the fault of an expression and of the patterns of a clause, and whether a function at its place has it
 pub record Forms : Type 0 where
   pub of_expr : Module → Expr → Context → Option Form
   pub of_patterns : List Pattern → Option Form
-  pub of_function : Module → (place : ℕ) → Function → Option Form
+  pub of_function : Module → (place : ℕ) → Function → Bool
 
 -- what a check says of a node. A pattern that isn't the first of its clause never fails
 abbrev pub form_at : Forms → Module → Node → Option Form

@@ -23,12 +23,12 @@ pub trait Check {
     fn patterns_fault(&self, patterns: &[Pattern]) -> Result<Option<Form>, Memory>
         ensures { IfOk result (λ form. form ≡ (forms self.now).of_patterns patterns.now) };
 
-    /// The form of the fault of a function at a place of its module, where it has one.
+    /// Whether a function at a place of its module has the fault by itself.
     fn function_fault(
         &self,
         names: &Module,
         place: usize,
         function: &Function,
-    ) -> Result<Option<Form>, Memory>
-        ensures { IfOk result (λ form. form ≡ (forms self.now).of_function names.now place function.now) };
+    ) -> Result<bool, Memory>
+        ensures { IfOk result (λ fails. fails ≡ (forms self.now).of_function names.now place function.now) };
 }

@@ -7,7 +7,7 @@ use crate::position::{Position, Spot};
 use crate::scope::Scope;
 use crate::stop::{Found, Stop};
 use crate::walk::walk_expr;
-use hy_core::{Function, LintFault, Module, Place};
+use hy_core::{Form, Function, LintFault, Module, Place};
 use hy_terms::Memory;
 use std::alloc::Global;
 
@@ -31,8 +31,11 @@ fn first_node<C: Check>(
 ) -> Result<Option<Found>, Memory>
     ensures { IfOk result (λ found. Tells found (function_outcome (C.forms check.now) names.now place function.now)) }
 {
-    if let Some(form) = check.function_fault(names, place, function)? {
-        return Ok(Some(Found { node: 0, form }));
+    if check.function_fault(names, place, function)? {
+        return Ok(Some(Found {
+            node: 0,
+            form: Form::Absent,
+        }));
     }
     let mut at = Position {
         node: 0,
