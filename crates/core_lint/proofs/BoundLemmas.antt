@@ -2,7 +2,7 @@
 use Rattle.std.proofs.Common.{◌≡◌, ℕ, zero, suc, ◌+◌, ◌-◌, ◌<◌, ◌≤◌, ◌==◌, ◌||◌, nat_lt, Bool, true, false, if◌then◌else◌, List, [], ◌∷◌, ◌++◌, length, refl, sym, ap, ◌∙◌, arith, eq-eqb, eqb-true, ltb-true, ltb-false, lt-ltb, ◌⊎◌, inl, inr}
 use Rattle.std.proofs.lemmas.List.{get_or-set_same, get_or-set_other, get_or_past}
 use Rattle.std.proofs.lemmas.Grind.{get_or_default_zero}
-use Rattle.std.specs.List.{slice_index_or, slice_set}
+use Rattle.std.specs.List.{Contains, slice_index_or, slice_set}
 use Rattle.core_lint.specs.Bound.{is_bound, times_bound, Counts}
 
 pub times_bound-append : (xs : List ℕ) (y x : ℕ) → times_bound (xs ++ y ∷ []) x ≡ (if y == x then suc (times_bound xs x) else times_bound xs x)
@@ -89,3 +89,26 @@ counts-read counts xs y n h within is = is ∙ get_or_default_zero counts y n wi
 -- the counts, where their list has grown
 pub counts-grown : (counts more xs : List ℕ) → Counts counts xs → ((y : ℕ) → slice_index_or more y 0 ≡ slice_index_or counts y 0) → Counts more xs
 counts-grown counts more xs h same = record { at = λ x. same x ∙ h.at x }
+
+-- the test of whether a variable is bound
+pub is_bound-Contains : (xs : List ℕ) (x : ℕ) → is_bound xs x ≡ true → Contains xs x
+is_bound-Contains [] x e = absurd cc
+is_bound-Contains (y ∷ ys) x e = by (y == x) refl e (is_bound-Contains ys x)
+  where
+    by : (b : Bool) → (y == x) ≡ b → (b || is_bound ys x) ≡ true → (is_bound ys x ≡ true → Contains ys x) → Contains (y ∷ ys) x
+    by true same e behind = (0, omega arith, eqb-true y x same)
+    by false other e behind = let h = behind e in (suc h.0, omega (arith, h.1), h.2)
+
+pub Contains-is_bound : (xs : List ℕ) (x : ℕ) → Contains xs x → is_bound xs x ≡ true
+Contains-is_bound xs x h = at xs h.0 h.1 h.2
+  where
+    here : (b rest : Bool) → b ≡ true → (b || rest) ≡ true
+    here true rest e = refl
+    here false rest e = absurd cc
+    later : (b rest : Bool) → rest ≡ true → (b || rest) ≡ true
+    later true rest e = refl
+    later false rest e = e
+    at : (xs : List ℕ) (k : ℕ) → k < length xs → slice_index_or xs k x ≡ x → is_bound xs x ≡ true
+    at [] k below is = absurd (omega arith)
+    at (y ∷ ys) zero below is = here (y == x) (is_bound ys x) (eq-eqb y x is)
+    at (y ∷ ys) (suc k) below is = later (y == x) (is_bound ys x) (at ys k (omega arith) is)

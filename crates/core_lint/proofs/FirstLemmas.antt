@@ -29,6 +29,7 @@ upto_last x y h = by (split x y h)
     by : (x < y) ⊎ (x ≡ y) → IsUpTo (x ∷ []) (y ∷ [])
     by (inl less) = lower less
     by (inr e) = subst (λ z. IsUpTo (x ∷ []) (z ∷ [])) e (upto_same (x ∷ []))
+
     split : (x y : ℕ) → x ≤ y → (x < y) ⊎ (x ≡ y)
     split zero zero h = inr refl
     split zero (suc y) h = inl (omega arith)
@@ -56,13 +57,16 @@ nodes_first check (n ∷ ns) k = by (check n) refl (walked check ns (suc k)) (no
     least : (form : Form) → check n ≡ Some form → (q : ℕ) (other : Form) → NodeAt check k (n ∷ ns) q other → IsUpTo (k ∷ form_place form ∷ []) (q ∷ form_place other ∷ [])
     least form e q other (this_node p) = let s : form ≡ other = cc in subst (λ o. IsUpTo (k ∷ form_place form ∷ []) (k ∷ form_place o ∷ [])) s (upto_same _)
     least form e q other (later_node h) = lower (omega (arith, node_behind h))
+
     none_here : check n ≡ None → ((q : ℕ) (form : Form) → NodeAt check (suc k) ns q form → ⊥) → (q : ℕ) (form : Form) → NodeAt check k (n ∷ ns) q form → ⊥
     none_here e h q form (this_node s) = absurd (cc (e, s))
     none_here e h q form (later_node l) = h q form l
+
     least_later : check n ≡ None → (p : ℕ) (form : Form) → ((q : ℕ) (other : Form) → NodeAt check (suc k) ns q other → IsUpTo (p ∷ form_place form ∷ []) (q ∷ form_place other ∷ []))
         → (q : ℕ) (other : Form) → NodeAt check k (n ∷ ns) q other → IsUpTo (p ∷ form_place form ∷ []) (q ∷ form_place other ∷ [])
     least_later e p form h q other (this_node s) = absurd (cc (e, s))
     least_later e p form h q other (later_node l) = h q other l
+
     by : (o : Option Form) → check n ≡ o → (rest : Outcome) → IsFirstNode (NodeAt check (suc k) ns) rest → IsFirstNode (NodeAt check k (n ∷ ns)) (looked o k rest)
     by (Some form) e rest h = (this_node e, least form e)
     by None e (Passed next) h = none_here e h
@@ -80,13 +84,16 @@ module _ (forms : Forms) where
       least : (k : ℕ) (other : Form) → IsUpTo (0 ∷ 0 ∷ []) (k ∷ form_place other ∷ [])
       least zero other = same (upto_last 0 (form_place other) (omega arith))
       least (suc k) other = lower (omega arith)
+
       none_here : forms.of_function m j f ≡ false → ((k : ℕ) (form : Form) → NodeAt (form_at forms m) 0 (nodes_of f) k form → ⊥) → (k : ℕ) (form : Form) → InFunction m j f k form → ⊥
       none_here e h k form (whole s) = absurd (cc (e, s))
       none_here e h k form (part p) = h k form p
+
       least_part : forms.of_function m j f ≡ false → (q : ℕ) (form : Form) → ((k : ℕ) (other : Form) → NodeAt (form_at forms m) 0 (nodes_of f) k other → IsUpTo (q ∷ form_place form ∷ []) (k ∷ form_place other ∷ []))
           → (k : ℕ) (other : Form) → InFunction m j f k other → IsUpTo (q ∷ form_place form ∷ []) (k ∷ form_place other ∷ [])
       least_part e q form h k other (whole s) = absurd (cc (e, s))
       least_part e q form h k other (part p) = h k other p
+
       by : (b : Bool) → forms.of_function m j f ≡ b → (rest : Outcome) → IsFirstNode (NodeAt (form_at forms m) 0 (nodes_of f)) rest → IsFirstNode (InFunction m j f) (if b then Fails 0 Absent else rest)
       by true e rest h = (whole e, λ k other p. least k other)
       by false e (Passed next) h = none_here e h
@@ -113,13 +120,16 @@ module _ (forms : Forms) where
             → (x : LintFault) → InFunctions i m j (f ∷ fs) x → IsUpTo (order_of (fault_of kind i j q form)) (order_of x)
         least q form h x (this_function p) = same (same (same (h _ _ p)))
         least q form h x (later_function p) = behind_function j q form (omega arith) p
+
         none : ((k : ℕ) (form : Form) → InFunction m j f k form → ⊥) → ((x : LintFault) → InFunctions i m (suc j) fs x → ⊥) → (x : LintFault) → InFunctions i m j (f ∷ fs) x → ⊥
         none h l x (this_function p) = h _ _ p
         none h l x (later_function p) = l x p
+
         least_later : ((k : ℕ) (form : Form) → InFunction m j f k form → ⊥) → (y : LintFault) → ((x : LintFault) → InFunctions i m (suc j) fs x → IsUpTo (order_of y) (order_of x))
             → (x : LintFault) → InFunctions i m j (f ∷ fs) x → IsUpTo (order_of y) (order_of x)
         least_later h y l x (this_function p) = absurd (h _ _ p)
         least_later h y l x (later_function p) = l x p
+
         by : (o : Outcome) → IsFirstNode (InFunction m j f) o → (rest : Option LintFault) → IsFirst (InFunctions i m (suc j) fs) rest → IsFirst (InFunctions i m j (f ∷ fs)) (fault_or kind i j o rest)
         by (Fails q form) h rest l = (this_function h.0, least q form h.1)
         by (Passed next) h None l = none h l
@@ -156,12 +166,15 @@ module _ (forms : Forms) where
         least : (y : LintFault) → InFunctions i m 0 m.functions y → ((x : LintFault) → InFunctions i m 0 m.functions x → IsUpTo (order_of y) (order_of x)) → (x : LintFault) → InModules i (m ∷ ms) x → IsUpTo (order_of y) (order_of x)
         least y here h x (this_module p) = h x p
         least y here h x (later_module p) = behind_module y x (functions_in here) (omega arith) p
+
         none : ((x : LintFault) → InFunctions i m 0 m.functions x → ⊥) → ((x : LintFault) → InModules (suc i) ms x → ⊥) → (x : LintFault) → InModules i (m ∷ ms) x → ⊥
         none h l x (this_module p) = h x p
         none h l x (later_module p) = l x p
+
         least_later : ((x : LintFault) → InFunctions i m 0 m.functions x → ⊥) → (y : LintFault) → ((x : LintFault) → InModules (suc i) ms x → IsUpTo (order_of y) (order_of x)) → (x : LintFault) → InModules i (m ∷ ms) x → IsUpTo (order_of y) (order_of x)
         least_later h y l x (this_module p) = absurd (h x p)
         least_later h y l x (later_module p) = l x p
+
         by : (o : Option LintFault) → IsFirst (InFunctions i m 0 m.functions) o → (rest : Option LintFault) → IsFirst (InModules (suc i) ms) rest → IsFirst (InModules i (m ∷ ms)) (or_later o rest)
         by (Some y) h rest l = (this_module h.0, least y h.0 h.1)
         by None h None l = none h l
@@ -229,12 +242,13 @@ module _ (forms : Forms) where
             let z : 0 + r.0 ≡ k = omega (arith, r.2) in
             let y : r.0 ≡ k = omega (arith, r.2) in
             by_node (record { f = f; around = around; stands = subst (λ d. slice_get (nodes_of f) d ≡ Some r.1) y r.3 }) r.4
+
         in_functions : (i : ℕ) (m : Module) (x : LintFault) → slice_get program.given i ≡ Some m → InFunctions i m 0 m.functions x → IsShown forms program kind x
         in_functions i m x given h =
             let r = functions_from h in
             let z : 0 + r.0 ≡ r.0 = omega arith in
             subst (λ x. IsShown forms program kind x) (sym (r.5 ∙ ap (λ j. fault_of kind i j r.2 r.3) z))
-                (at i r.0 r.2 m r.1 r.3 (record { given = given; defined = r.4 }) (subst (λ j. InFunction m j r.1 r.2 r.3) z r.6))
+            (at i r.0 r.2 m r.1 r.3 (record { given = given; defined = r.4 }) (subst (λ j. InFunction m j r.1 r.2 r.3) z r.6))
 
     placed : (program : Program) (i j k : ℕ) (m : Module) (f : Function) (form : Form) → IsFunction program i j m f → InFunction m j f k form → InModules 0 program.given (fault_of kind i j k form)
     placed program i j k m f form around h =
@@ -242,7 +256,7 @@ module _ (forms : Forms) where
         let z : i ≡ 0 + i = omega arith in
         let inside = functions_to i m 0 m.functions j f k form around.defined (subst (λ n. InFunction m n f k form) y h) in
         modules_to 0 program.given i m (fault_of kind i j k form) around.given
-            (subst (λ n. InFunctions n m 0 m.functions (fault_of kind i j k form)) z (subst (λ n. InFunctions i m 0 m.functions (fault_of kind i n k form)) (sym y) inside))
+        (subst (λ n. InFunctions n m 0 m.functions (fault_of kind i j k form)) z (subst (λ n. InFunctions i m 0 m.functions (fault_of kind i n k form)) (sym y) inside))
 
     shown_to : (program : Program) (x : LintFault) → IsShown forms program kind x → InModules 0 program.given x
     shown_to program x (by_function {i = i} {j = j} {m = m} {f = f} around e) = placed program i j 0 m f Absent around (whole e)

@@ -2,4 +2,5 @@ pub mod Bound
 pub mod First
 pub mod Parts
 pub mod PatternParts
+pub mod Unbound
 pub mod Walk

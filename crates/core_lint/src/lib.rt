@@ -8,6 +8,7 @@ mod patterns;
 mod position;
 mod scope;
 mod stop;
+mod unbound;
 mod walk;
 
 pub use check::Check;
@@ -16,4 +17,5 @@ pub use locals::Locals;
 pub use position::{Position, Spot};
 pub use scope::Scope;
 pub use stop::{Found, Stop};
+pub use unbound::unbound_variable;
 pub use walk::walk_expr;

@@ -1,0 +1,28 @@
+-- The faults of each kind among those of a program.
+use Rattle.std.proofs.Common.{◌≡◌, ℕ, refl, sym, subst, arith}
+use Rattle.hy_core.specs.Faults as f
+use Rattle.hy_core.specs.Faults.{IsFault}
+use Rattle.hy_core.specs.NodeFaults.{Repeats, IsUnbound, RepeatsVariable, IsForbiddenForm, HasWrongValues, IsForbiddenInGuard}
+use Rattle.hy_core.specs.Nodes.{Node}
+use Rattle.hy_core.specs.declared.fault.Form.{Form}
+use Rattle.hy_core.specs.declared.fault.Form.TheVariants.{Absent}
+use Rattle.hy_core.specs.declared.fault.LintFault.{LintFault}
+use Rattle.hy_core.specs.declared.tree.Function.{Function}
+use Rattle.hy_core.specs.declared.tree.Module.{Module}
+use Rattle.hy_core.specs.declared.tree.Program.{Program}
+use Rattle.core_lint.proofs.Exact.{KindFault, in_function, in_node}
+
+-- no function has the fault by itself
+abbrev pub AtNoFunction : Module → ℕ → Function → Type 0
+AtNoFunction m j g = ⊥
+
+abbrev pub UnboundAt : Module → Node → Form → Type 0
+UnboundAt m n form = IsUnbound n × (form ≡ Absent)
+
+pub unbound_from : (program : Program) (x : LintFault) → KindFault UnboundAt AtNoFunction program 4 x → IsFault program x
+unbound_from program x (in_function around h) = absurd h
+unbound_from program x (in_node {i = i} {j = j} {k = k} stands h) = subst (λ form. IsFault program (f.fault_of 4 i j k form)) (sym h.1) (f.unbound_variable stands h.0)
+
+pub unbound_to : (program : Program) (x : LintFault) → IsFault program x → x.kind ≡ 4 → KindFault UnboundAt AtNoFunction program 4 x
+unbound_to program x (f.unbound_variable stands h) e = in_node stands (h, refl)
+unbound_to program x _ e = absurd (omega arith)
