@@ -105,9 +105,11 @@ Contains-is_bound xs x h = at xs h.0 h.1 h.2
     here : (b rest : Bool) → b ≡ true → (b || rest) ≡ true
     here true rest e = refl
     here false rest e = absurd cc
+
     later : (b rest : Bool) → rest ≡ true → (b || rest) ≡ true
     later true rest e = refl
     later false rest e = e
+
     at : (xs : List ℕ) (k : ℕ) → k < length xs → slice_index_or xs k x ≡ x → is_bound xs x ≡ true
     at [] k below is = absurd (omega arith)
     at (y ∷ ys) zero below is = here (y == x) (is_bound ys x) (eq-eqb y x is)

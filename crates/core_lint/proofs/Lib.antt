@@ -4,5 +4,7 @@ pub mod FirstLemmas
 pub mod OfKind
 pub mod NodesLemmas
 pub mod PatternsLemmas
+pub mod RepeatedExact
+pub mod RepeatedLemmas
 pub mod UnboundExact
 pub mod WalkLemmas

@@ -26,3 +26,18 @@ unbound_from program x (in_node {i = i} {j = j} {k = k} stands h) = subst (λ fo
 pub unbound_to : (program : Program) (x : LintFault) → IsFault program x → x.kind ≡ 4 → KindFault UnboundAt AtNoFunction program 4 x
 unbound_to program x (f.unbound_variable stands h) e = in_node stands (h, refl)
 unbound_to program x _ e = absurd (omega arith)
+
+abbrev pub RepeatedAt : Module → Node → Form → Type 0
+RepeatedAt m n form = RepeatsVariable n × (form ≡ Absent)
+
+abbrev pub RepeatedParameter : Module → ℕ → Function → Type 0
+RepeatedParameter m j g = Repeats g.params
+
+pub repeated_from : (program : Program) (x : LintFault) → KindFault RepeatedAt RepeatedParameter program 5 x → IsFault program x
+repeated_from program x (in_function around h) = f.repeated_parameter around h
+repeated_from program x (in_node {i = i} {j = j} {k = k} stands h) = subst (λ form. IsFault program (f.fault_of 5 i j k form)) (sym h.1) (f.repeated_variable stands h.0)
+
+pub repeated_to : (program : Program) (x : LintFault) → IsFault program x → x.kind ≡ 5 → KindFault RepeatedAt RepeatedParameter program 5 x
+repeated_to program x (f.repeated_parameter around h) e = in_function around h
+repeated_to program x (f.repeated_variable stands h) e = in_node stands (h, refl)
+repeated_to program x _ e = absurd (omega arith)

@@ -1,48 +1,53 @@
-ghost use Rattle.std.specs.Prelude.{◌≡◌, ◌+◌, ◌++◌, length, map, OnOk};
+ghost use Rattle.std.specs.Prelude.{◌≡◌, ◌+◌, ◌++◌, length, OnOk};
 ghost use Rattle.core_lint.specs.PatternParts.{end_patterns, within_layer};
 ghost use Rattle.hy_core.specs.declared.tree.Pattern.TheViews.{out-Pattern};
-ghost use Rattle.hy_core.specs.SubPatterns.{joined, within, variables, clause_variables, patterns_in, is_nil_layer};
+ghost use Rattle.hy_core.specs.SubPatterns.{within, variables, clause_variables, patterns_in, is_nil_layer};
 
 use crate::scope::Scope;
 use hy_core::Pattern;
 use hy_terms::Memory;
 
-// Binds the variables of a pattern.
-#[cycle(bind)]
-fn bind_pattern(scope: &mut Scope, pattern: &Pattern) -> Result<(), Memory>
-    ensures { OnOk result (scope.new ≡ scope.old ++ variables pattern.now) }
+// Appends the variables of a pattern.
+#[cycle(push)]
+fn push_pattern(out: &mut Vec<u32>, pattern: &Pattern) -> Result<(), Memory>
+    ensures { OnOk result (out.new.items ≡ out.old.items ++ variables pattern.now) }
 {
     match pattern {
-        Pattern::Var(variable) => scope.bind_all([*variable].as_slice()),
+        Pattern::Var(variable) => {
+            out.push(*variable)?;
+            Ok(())
+        }
         Pattern::Int(_) | Pattern::Atom(_) | Pattern::Nil | Pattern::Str(_) => Ok(()),
-        Pattern::Tuple(parts) => bind_each(scope, parts.as_slice()),
+        Pattern::Tuple(parts) => push_variables(out, parts.as_slice()),
         Pattern::List { heads, tail } => {
-            bind_each(scope, heads.as_slice())?;
-            bind_pattern(scope, tail.get())
+            push_variables(out, heads.as_slice())?;
+            push_pattern(out, tail.get())
         }
         Pattern::Alias { var, pattern } => {
-            scope.bind_all([*var].as_slice())?;
-            bind_pattern(scope, pattern.get())
+            out.push(*var)?;
+            push_pattern(out, pattern.get())
         }
     }
 }
 
-// Binds the variables of patterns.
-#[cycle(bind)]
-fn bind_each(scope: &mut Scope, patterns: &[Pattern]) -> Result<(), Memory>
-    ensures { OnOk result (scope.new ≡ scope.old ++ joined (map variables patterns.now)) }
+/// Appends the variables of patterns.
+#[cycle(push)]
+pub fn push_variables(out: &mut Vec<u32>, patterns: &[Pattern]) -> Result<(), Memory>
+    ensures { OnOk result (out.new.items ≡ out.old.items ++ clause_variables patterns.now) }
 {
     for pattern in patterns {
-        bind_pattern(scope, pattern)?;
+        push_pattern(out, pattern)?;
     }
     Ok(())
 }
 
-/// Binds the variables of the patterns of a clause.
+/// Binds the variables of patterns.
 pub fn bind_patterns(scope: &mut Scope, patterns: &[Pattern]) -> Result<(), Memory>
     ensures { OnOk result (scope.new ≡ scope.old ++ clause_variables patterns.now) }
 {
-    bind_each(scope, patterns)
+    let mut variables = Vec::new(scope.allocator());
+    push_variables(&mut variables, patterns)?;
+    scope.bind_all(variables.as_slice())
 }
 
 fn is_nil(pattern: &Pattern) -> bool

@@ -48,6 +48,11 @@ impl Scope {
         }
     }
 
+    /// Where its memory comes from.
+    pub fn allocator(&self) -> Global {
+        *self.bound.allocator()
+    }
+
     /// How many variables there are.
     pub fn len(&self) -> usize
         ensures { result ≡ length self.now }

@@ -9,4 +9,4 @@ pub returns : goal.returns
 returns c =
     let program = c.args.program.now in
     answers (IsFaultOf program 4) c.first_in_program.result (first_in_modules unbound 4 0) c.as_slice.result.now program.given c.first_in_program.ensures c.as_slice.ensures
-        (exact_first unbound UnboundAt AtNoFunction unbound_exact program 4 (unbound_from program) (unbound_to program))
+    (exact_first unbound UnboundAt AtNoFunction unbound_exact program 4 (unbound_from program) (unbound_to program))
