@@ -7,4 +7,5 @@ pub mod PatternsLemmas
 pub mod RepeatedExact
 pub mod RepeatedLemmas
 pub mod UnboundExact
+pub mod ValuedExact
 pub mod WalkLemmas

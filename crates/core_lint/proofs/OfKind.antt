@@ -41,3 +41,36 @@ pub repeated_to : (program : Program) (x : LintFault) → IsFault program x → 
 repeated_to program x (f.repeated_parameter around h) e = in_function around h
 repeated_to program x (f.repeated_variable stands h) e = in_node stands (h, refl)
 repeated_to program x _ e = absurd (omega arith)
+
+abbrev pub ValuesAt : Module → Node → Form → Type 0
+ValuesAt m n form = HasWrongValues m n × (form ≡ Absent)
+
+pub values_from : (program : Program) (x : LintFault) → KindFault ValuesAt AtNoFunction program 8 x → IsFault program x
+values_from program x (in_function around h) = absurd h
+values_from program x (in_node {i = i} {j = j} {k = k} stands h) = subst (λ form. IsFault program (f.fault_of 8 i j k form)) (sym h.1) (f.wrong_values stands h.0)
+
+pub values_to : (program : Program) (x : LintFault) → IsFault program x → x.kind ≡ 8 → KindFault ValuesAt AtNoFunction program 8 x
+values_to program x (f.wrong_values stands h) e = in_node stands (h, refl)
+values_to program x _ e = absurd (omega arith)
+
+abbrev pub FormAt : Module → Node → Form → Type 0
+FormAt m n form = IsForbiddenForm m n form
+
+pub form_from : (program : Program) (x : LintFault) → KindFault FormAt AtNoFunction program 7 x → IsFault program x
+form_from program x (in_function around h) = absurd h
+form_from program x (in_node stands h) = f.forbidden_form stands h
+
+pub form_to : (program : Program) (x : LintFault) → IsFault program x → x.kind ≡ 7 → KindFault FormAt AtNoFunction program 7 x
+form_to program x (f.forbidden_form stands h) e = in_node stands h
+form_to program x _ e = absurd (omega arith)
+
+abbrev pub GuardAt : Module → Node → Form → Type 0
+GuardAt m n form = IsForbiddenInGuard m n × (form ≡ Absent)
+
+pub guard_from : (program : Program) (x : LintFault) → KindFault GuardAt AtNoFunction program 9 x → IsFault program x
+guard_from program x (in_function around h) = absurd h
+guard_from program x (in_node {i = i} {j = j} {k = k} stands h) = subst (λ form. IsFault program (f.fault_of 9 i j k form)) (sym h.1) (f.forbidden_in_guard stands h.0)
+
+pub guard_to : (program : Program) (x : LintFault) → IsFault program x → x.kind ≡ 9 → KindFault GuardAt AtNoFunction program 9 x
+guard_to program x (f.forbidden_in_guard stands h) e = in_node stands (h, refl)
+guard_to program x _ e = absurd (omega arith)

@@ -20,7 +20,7 @@ use Rattle.core_lint.proofs.Exact.{IsExact}
 use Rattle.core_lint.proofs.OfKind.{RepeatedAt, RepeatedParameter}
 use Rattle.core_lint.proofs.RepeatedLemmas.{or-true, repeats-Repeats, Repeats-repeats}
 
-form_if-Some : (b : Bool) (form : Form) → form_if b ≡ Some form → (b ≡ true) × (form ≡ Absent)
+pub form_if-Some : (b : Bool) (form : Form) → form_if b ≡ Some form → (b ≡ true) × (form ≡ Absent)
 form_if-Some true form e = (refl, cc)
 form_if-Some false form e = absurd cc
 

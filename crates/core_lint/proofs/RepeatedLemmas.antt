@@ -86,9 +86,11 @@ repeats_either seen (y ∷ ys) e = by (is_bound seen y) refl e (repeats_either (
         or-false : (b : Bool) → (b || false) ≡ true → b ≡ true
         or-false true e = refl
         or-false false e = e
+
     on : ((x : ℕ) × (is_bound (seen ++ y ∷ []) x ≡ true) × (is_bound ys x ≡ true)) ⊎ Repeats ys → ((x : ℕ) × (is_bound seen x ≡ true) × ((y == x) || is_bound ys x) ≡ true) ⊎ Repeats (y ∷ ys)
     on (inl h) = split h.0 (y == h.0) refl h.1 h.2
     on (inr h) = inr (behind_first h)
+
     by : (b : Bool) → is_bound seen y ≡ b → (b || repeats_after (seen ++ y ∷ []) ys) ≡ true → (repeats_after (seen ++ y ∷ []) ys ≡ true → ((x : ℕ) × (is_bound (seen ++ y ∷ []) x ≡ true) × (is_bound ys x ≡ true)) ⊎ Repeats ys)
         → ((x : ℕ) × (is_bound seen x ≡ true) × ((y == x) || is_bound ys x) ≡ true) ⊎ Repeats (y ∷ ys)
     by true p e later = inl (y, p, ap (λ b. b || is_bound ys y) (eq-eqb y y refl))

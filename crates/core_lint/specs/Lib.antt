@@ -4,4 +4,5 @@ pub mod Parts
 pub mod PatternParts
 pub mod Repeated
 pub mod Unbound
+pub mod Valued
 pub mod Walk

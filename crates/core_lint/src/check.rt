@@ -1,4 +1,5 @@
 ghost use Rattle.std.specs.Prelude.{◌≡◌, IfOk};
+ghost use Rattle.core_lint.specs.Repeated.{form_if};
 ghost use Rattle.core_lint.specs.Walk.{Forms, context_of};
 
 use crate::position::{Position, Spot};
@@ -31,4 +32,11 @@ pub trait Check {
         function: &Function,
     ) -> Result<bool, Memory>
         ensures { IfOk result (λ fails. fails ≡ (forms self.now).of_function names.now place function.now) };
+}
+
+/// The form of a fault whose kind tells all.
+pub fn form_of(fails: bool) -> Option<Form>
+    ensures { result ≡ form_if fails }
+{
+    if fails { Some(Form::Absent) } else { None }
 }

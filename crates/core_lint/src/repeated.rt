@@ -1,8 +1,8 @@
 ghost use Rattle.std.specs.Prelude.{◌≡◌, IfOk};
 ghost use Rattle.core_lint.specs.First.{IsFaultOf, IsFirst};
-ghost use Rattle.core_lint.specs.Repeated.{form_if, repeated, repeats as are_repeated, repeats_parameter as are_parameters_repeated};
+ghost use Rattle.core_lint.specs.Repeated.{repeated, repeats as are_repeated, repeats_parameter as are_parameters_repeated};
 
-use crate::check::Check;
+use crate::check::{Check, form_of};
 use crate::first::first_in_program;
 use crate::patterns::push_variables;
 use crate::position::{Position, Spot};
@@ -40,12 +40,6 @@ fn repeats_parameter(alloc: Global, functions: &[Function]) -> Result<bool, Memo
         }
     }
     Ok(false)
-}
-
-fn form_of(fails: bool) -> Option<Form>
-    ensures { result ≡ form_if fails }
-{
-    if fails { Some(Form::Absent) } else { None }
 }
 
 impl Check for Repeated {

@@ -1,9 +1,10 @@
 ghost use Rattle.std.specs.Prelude.{◌≡◌, ◌+◌, [], ◌∷◌, OnOk};
-ghost use Rattle.hy_core.specs.Nodes.{AnExpr, node, nodes, clause_nodes, definition_nodes, pattern_nodes, at_place, binding, for_one, for_values, inside, is_nil_layer, names_of, patterns_of_first};
+ghost use Rattle.hy_core.specs.Nodes.{AnExpr, node, nodes, clause_nodes, definition_nodes, pattern_nodes, at_place, binding, for_one, for_values, inside, is_nil_layer, names_of};
 ghost use Rattle.hy_core.specs.declared.tree.Expr.TheViews.{out-Expr};
 ghost use Rattle.core_lint.specs.Parts.{each_node, end_nodes, part_nodes};
 ghost use Rattle.core_lint.specs.Walk.{Walks, context_of, form_at};
 
+use crate::cases::needs_of_case;
 use crate::check::Check;
 use crate::patterns::{bind_patterns, pass_patterns};
 use crate::position::{Position, Spot};
@@ -66,15 +67,6 @@ fn is_nil(expr: &Expr) -> bool
     ensures { result ≡ is_nil_layer (out-Expr expr.now) }
 {
     matches!(expr, Expr::Nil)
-}
-
-fn needs_of_case(clauses: &[Clause]) -> usize
-    ensures { result ≡ patterns_of_first clauses.now }
-{
-    match clauses {
-        [] => 0,
-        [first, ..] => first.patterns.len(),
-    }
 }
 
 /// Looks at the nodes of an expression, from the next one on, up to the first at which the check fails.
