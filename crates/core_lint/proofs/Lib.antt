@@ -1,7 +1,9 @@
 pub mod BoundLemmas
+pub mod CalledLemmas
 pub mod Exact
 pub mod FirstLemmas
 pub mod OfKind
+pub mod GuardedExact
 pub mod NodesLemmas
 pub mod PatternsLemmas
 pub mod RepeatedExact

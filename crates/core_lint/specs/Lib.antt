@@ -1,5 +1,8 @@
 pub mod Bound
+pub mod Called
 pub mod First
+pub mod GuardForm
+pub mod Guarded
 pub mod Parts
 pub mod PatternParts
 pub mod Repeated

@@ -1,9 +1,12 @@
 //! Finds the faults of a program.
 #![tactic(auto)]
 
+mod built_in;
 mod cases;
 mod check;
 mod first;
+mod guard_form;
+mod guarded;
 mod locals;
 mod names;
 mod patterns;
@@ -15,8 +18,10 @@ mod unbound;
 mod valued;
 mod walk;
 
+pub use built_in::{BuiltIn, atom_of, called};
 pub use check::Check;
 pub use first::first_in_program;
+pub use guarded::forbidden_in_guard;
 pub use locals::Locals;
 pub use position::{Position, Spot};
 pub use repeated::repeated_variable;
