@@ -38,7 +38,7 @@ use Rattle.core_lint.proofs.RepeatedLemmas.{not-true}
 pub is_rolled : (x : Expr) (y : Expr-F Expr Clause Function) → out-Expr x ≡ y → x ≡ roll-Expr y
 is_rolled x y e = sym (roll-out-Expr x) ∙ ap roll-Expr e
 
-and-both : (a b : Bool) → (a && b) ≡ true → (a ≡ true) × (b ≡ true)
+pub and-both : (a b : Bool) → (a && b) ≡ true → (a ≡ true) × (b ≡ true)
 and-both true b e = (refl, e)
 and-both false b e = absurd cc
 
@@ -108,7 +108,7 @@ plain-is (Some Plain) e = refl
 plain-is (Some Spawn) e = absurd cc
 plain-is (Some Other) e = absurd cc
 
-whole-is : (place : Place) → is_whole_guard place ≡ true → place ≡ WholeGuard
+pub whole-is : (place : Place) → is_whole_guard place ≡ true → place ≡ WholeGuard
 whole-is Anywhere e = absurd cc
 whole-is Applied e = absurd cc
 whole-is Timeout e = absurd cc

@@ -6,6 +6,7 @@ pub mod OfKind
 pub mod GuardedExact
 pub mod NodesLemmas
 pub mod PatternsLemmas
+pub mod ProfileExact
 pub mod RepeatedExact
 pub mod RepeatedLemmas
 pub mod UnboundExact

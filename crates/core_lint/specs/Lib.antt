@@ -5,6 +5,7 @@ pub mod GuardForm
 pub mod Guarded
 pub mod Parts
 pub mod PatternParts
+pub mod Profile
 pub mod Repeated
 pub mod Unbound
 pub mod Valued

@@ -63,7 +63,8 @@ fn visit_patterns<C: Check>(
     Ok(())
 }
 
-fn is_nil(expr: &Expr) -> bool
+/// Whether an expression is nil.
+pub fn is_nil(expr: &Expr) -> bool
     ensures { result ≡ is_nil_layer (out-Expr expr.now) }
 {
     matches!(expr, Expr::Nil)

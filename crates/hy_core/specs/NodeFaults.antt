@@ -53,6 +53,10 @@ pub data IsListOf : Expr → ℕ → Type 0 where
   no_element : IsListOf e.Nil 0
   elements : (site : ℕ) (heads : List Expr) → IsListOf (e.List site heads e.Nil) (length heads)
 
+-- a module, a function and a list written out
+pub data IsSpawnable : List Expr → Type 0 where
+  spawnable : (x y list : Expr) (n : ℕ) → IsAtom x → IsAtom y → IsListOf list n → IsSpawnable (x ∷ y ∷ list ∷ [])
+
 -- The texts of atoms are those of the module.
 module _ (m : Module) where
   -- `try E of <X> -> X catch <A,B> -> 'false'`, with two or three variables behind `catch`: as a whole guard it is read as E
@@ -66,10 +70,6 @@ module _ (m : Module) where
   pub data IsTimeout : Expr → Type 0 where
     at_once : IsTimeout (e.Int (pos 0))
     never : (a : ℕ) → text_of m.atoms a ≡ codes "infinity" → IsTimeout (e.Atom a)
-
-  -- a module, a function and a list written out
-  pub data IsSpawnable : List Expr → Type 0 where
-    spawnable : (x y list : Expr) (n : ℕ) → IsAtom x → IsAtom y → IsListOf list n → IsSpawnable (x ∷ y ∷ list ∷ [])
 
   -- a form outside the profile
   pub data IsForbiddenForm : Node → Form → Type 0 where
