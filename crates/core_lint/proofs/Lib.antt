@@ -4,6 +4,7 @@ pub mod Exact
 pub mod FirstLemmas
 pub mod OfKind
 pub mod GuardedExact
+pub mod NamedExact
 pub mod NodesLemmas
 pub mod PatternsLemmas
 pub mod ProfileExact

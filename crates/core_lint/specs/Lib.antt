@@ -3,6 +3,7 @@ pub mod Called
 pub mod First
 pub mod GuardForm
 pub mod Guarded
+pub mod Named
 pub mod Parts
 pub mod PatternParts
 pub mod Profile

@@ -11,8 +11,8 @@ use hy_core::{Form, Function, LintFault, Module, Place};
 use hy_terms::Memory;
 use std::alloc::Global;
 
-// A place as a number of a fault.
-fn number(place: usize) -> Result<u32, Memory>
+/// A place as a number of a fault.
+pub fn number(place: usize) -> Result<u32, Memory>
     ensures { IfOk result (λ n. n ≡ place) }
 {
     if place > u32::MAX as usize {
