@@ -1,6 +1,6 @@
 -- What a call of a built-in does is what its operation does.
 use Rattle.std.proofs.Common.{◌≡◌, ℕ, ◌==◌, ◌&&◌, ◌||◌, Bool, true, false, List, [], ◌∷◌, ◌++◌, map, take, drop, append-nil, Option, Some, None, if◌then◌else◌, codes, refl, sym, ap, ◌∙◌}
-use Rattle.std.specs.List.{AllByRecursion, list_any}
+use Rattle.std.specs.List.{AllByRecursion}
 use Rattle.std.specs.Str.{bytes_eq}
 use Rattle.hy_terms.specs.Naming.{text_of}
 use Rattle.hy_core.specs.BuiltIn as built

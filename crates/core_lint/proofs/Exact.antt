@@ -3,7 +3,7 @@ use Rattle.std.proofs.Common.{◌≡◌, ℕ, ◌≤◌, true, List, Option, Som
 use Rattle.std.specs.Prelude.{IfOk}
 use Rattle.std.specs.declared.result.Result.TheVariants.{Ok, Err}
 use Rattle.hy_terms.specs.declared.memory.Memory.{Memory}
-use Rattle.hy_core.specs.Faults.{fault, fault_of, IsFault, IsFunction, IsNode, IsUpTo, at_end, same, form_place, order_of}
+use Rattle.hy_core.specs.Faults.{fault, fault_of, IsFault, IsFunction, IsNode, IsUpTo, same, form_place, order_of}
 use Rattle.hy_core.specs.Nodes.{Node}
 use Rattle.hy_core.specs.declared.fault.Form.{Form}
 use Rattle.hy_core.specs.declared.fault.LintFault.{LintFault}

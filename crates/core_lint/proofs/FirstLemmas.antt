@@ -1,6 +1,6 @@
 -- What a check finds first is the first that it shows.
 use Rattle.std.proofs.Common.{◌≡◌, ℕ, zero, suc, ◌+◌, ◌<◌, ◌≤◌, ◌⊎◌, inl, inr, Bool, true, false, if◌then◌else◌, List, [], ◌∷◌, Option, Some, None, slice_get, refl, sym, ap, ◌∙◌, subst, arith}
-use Rattle.hy_core.specs.Faults.{fault, fault_of, IsFunction, IsNode, IsUpTo, at_end, lower, same, form_place, order_of}
+use Rattle.hy_core.specs.Faults.{fault, fault_of, IsFunction, IsUpTo, at_end, lower, same, form_place, order_of}
 use Rattle.hy_core.specs.Nodes.{Node, nodes_of}
 use Rattle.hy_core.specs.declared.fault.Form.{Form}
 use Rattle.hy_core.specs.declared.fault.Form.TheVariants.{Absent}

@@ -1,9 +1,7 @@
 -- The check for forms that a guard may not hold is exact.
 use Rattle.std.proofs.Common.{◌≡◌, ℕ, suc, ◌==◌, ◌&&◌, ◌||◌, not, Bool, true, false, List, [], ◌∷◌, length, codes, Option, Some, None, refl, sym, ap, ◌∙◌, subst, eq-eqb, eqb-true, arith}
 use Rattle.std.proofs.lemmas.Slice.Eq.{bytes_eq-Decides}
-use Rattle.std.specs.Str.{bytes_eq}
 use Rattle.hy_terms.specs.Naming.{text_of}
-use Rattle.hy_core.specs.BuiltIn as built
 use Rattle.hy_core.specs.BuiltIn.{operation_named}
 use Rattle.hy_core.specs.NodeFaults.{IsForbiddenInGuard, forbidden, IsGuardExpr, integer, atom, nil, variable, let_in, built_in, whole, IsGuardForm, two_caught, three_caught}
 use Rattle.hy_core.specs.Nodes.{Piece, AnExpr, APattern, FirstPattern, Context, Node, node}

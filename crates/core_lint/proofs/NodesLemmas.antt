@@ -2,7 +2,7 @@
 use Rattle.std.proofs.Common.{◌≡◌, ℕ, ◌+◌, ◌<◌, List, [], ◌∷◌, ◌++◌, length, map, take, drop, refl, sym, ap, ◌∙◌, subst, append_assoc}
 use Rattle.std.proofs.lemmas.List.{append-nil, take_more, take-append-drop}
 use Rattle.std.specs.List.{slice_index_or}
-use Rattle.hy_core.specs.Nodes.{Nodes, Context, Node, node, AnExpr, all_nodes, tail_nodes, expr_step, clause_step, function_step, nodes, clause_nodes, definition_nodes, pattern_nodes, guarding, binding, defining, for_one, for_values, inside, names_of, patterns_of_first}
+use Rattle.hy_core.specs.Nodes.{Nodes, Context, Node, node, AnExpr, all_nodes, expr_step, clause_step, function_step, nodes, clause_nodes, definition_nodes, pattern_nodes, guarding, binding, defining, for_one, for_values, inside, names_of, patterns_of_first}
 use Rattle.hy_core.specs.SubPatterns.{clause_variables}
 use Rattle.hy_core.specs.declared.tree.Clause.{Clause}
 use Rattle.hy_core.specs.declared.tree.Expr.{Expr}
@@ -10,9 +10,9 @@ use Rattle.hy_core.specs.declared.tree.Expr.TheFolds.{para-roll-Expr, para-roll-
 use Rattle.hy_core.specs.declared.tree.Expr.TheOpen as layer
 use Rattle.hy_core.specs.declared.tree.Expr.TheOpen.{Expr-F, Clause-F, Function-F}
 use Rattle.hy_core.specs.declared.tree.Expr.TheVariants as e
-use Rattle.hy_core.specs.declared.tree.Expr.TheViews.{out-Expr, roll-Expr, roll-out-Expr, roll-Clause, roll-Function}
+use Rattle.hy_core.specs.declared.tree.Expr.TheViews.{out-Expr, roll-Expr, roll-out-Expr}
 use Rattle.hy_core.specs.declared.tree.Function.{Function}
-use Rattle.core_lint.specs.Parts.{each_node, end_nodes, parts_layer, part_nodes}
+use Rattle.core_lint.specs.Parts.{each_node, parts_layer, part_nodes}
 
 -- parts as pairs with their nodes
 pub all_nodes-each : {A : Type 0} (f : A → Nodes) (xs : List A) (c : Context) → all_nodes (map (λ x. (x, f x)) xs) c ≡ each_node f xs c

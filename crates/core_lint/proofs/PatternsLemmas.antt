@@ -1,6 +1,6 @@
 -- The patterns inside a pattern, by its form.
-use Rattle.std.proofs.Common.{◌≡◌, ℕ, List, [], ◌∷◌, ◌++◌, map, refl, sym, ap, ◌∙◌, subst}
-use Rattle.hy_core.specs.SubPatterns.{PatternPart, within, within_step, each_within, patterns_in}
+use Rattle.std.proofs.Common.{◌≡◌, List, [], ◌∷◌, ◌++◌, map, refl, ap, ◌∙◌, subst}
+use Rattle.hy_core.specs.SubPatterns.{within, within_step, each_within, patterns_in}
 use Rattle.hy_core.specs.declared.tree.Pattern.{Pattern}
 use Rattle.hy_core.specs.declared.tree.Pattern.TheFolds.{para-roll-Pattern}
 use Rattle.hy_core.specs.declared.tree.Pattern.TheOpen as p

@@ -1,11 +1,10 @@
 -- The check for forms outside the profile is exact.
-use Rattle.std.proofs.Common.{◌≡◌, ℕ, suc, ◌≤◌, ◌&&◌, not, ℤ, pos, Bool, true, false, List, [], ◌∷◌, length, codes, Option, Some, None, if◌then◌else◌, refl, sym, ap, ◌∙◌, subst, arith}
+use Rattle.std.proofs.Common.{◌≡◌, ℕ, ◌≤◌, ◌&&◌, ℤ, pos, Bool, true, false, List, [], ◌∷◌, length, codes, Option, Some, None, if◌then◌else◌, refl, sym, ap, ◌∙◌, subst, arith}
 use Rattle.std.specs.Prelude.{is_some}
 use Rattle.std.proofs.lemmas.Bool.Decides.{Decides-int_eq}
 use Rattle.std.proofs.lemmas.Slice.Eq.{bytes_eq-Decides}
 use Rattle.std.specs.Ordering.{int_eq}
 use Rattle.hy_terms.specs.Naming.{text_of}
-use Rattle.hy_core.specs.BuiltIn as built
 use Rattle.hy_core.specs.BuiltIn.{operation_named}
 use Rattle.hy_core.specs.Faults.{form_place}
 use Rattle.hy_core.specs.NodeFaults.{IsForbiddenForm, a_fun, a_value, applies_value, calls_computed, a_try, a_catch, a_primop, a_timeout, a_spawn, IsAtom, an_atom, IsName, a_name, IsListOf, no_element, elements, IsTimeout, at_once, never, IsSpawnable, spawnable, IsGuardForm}
@@ -34,7 +33,6 @@ use Rattle.core_lint.proofs.CalledLemmas.{called-operation, does-Spawn, does_of}
 use Rattle.core_lint.proofs.Exact.{IsExact}
 use Rattle.core_lint.proofs.GuardedExact.{and-both, atom-is, guard_form-sound, guard_form-complete, is_rolled, whole-is}
 use Rattle.core_lint.proofs.OfKind.{AtNoFunction, FormAt}
-use Rattle.core_lint.proofs.RepeatedLemmas.{not-true}
 
 unless-Some : (b : Bool) (f g : Form) → unless b f ≡ Some g → (b ≡ false) × (f ≡ g)
 unless-Some true f g e = absurd cc

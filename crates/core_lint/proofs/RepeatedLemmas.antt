@@ -1,7 +1,7 @@
 -- Whether a variable stands twice in a list.
-use Rattle.std.proofs.Common.{◌≡◌, ℕ, zero, suc, ◌+◌, ◌<◌, ◌==◌, ◌||◌, nat_eq, not, Bool, true, false, List, [], ◌∷◌, ◌++◌, drop, length, ◌⊎◌, inl, inr, refl, sym, ap, ◌∙◌, eq-eqb, eqb-true, arith}
+use Rattle.std.proofs.Common.{◌≡◌, ℕ, suc, ◌+◌, ◌<◌, ◌==◌, ◌||◌, nat_eq, not, Bool, true, false, List, [], ◌∷◌, ◌++◌, drop, length, ◌⊎◌, inl, inr, refl, sym, ap, ◌∙◌, eq-eqb, eqb-true, arith}
 use Rattle.std.proofs.Math.Seq.{drop-cons}
-use Rattle.std.specs.List.{Contains, list_any, slice_index_or}
+use Rattle.std.specs.List.{list_any, slice_index_or}
 use Rattle.hy_core.specs.NodeFaults.{Repeats, first_again, behind_first}
 use Rattle.core_lint.specs.Bound.{is_bound}
 use Rattle.core_lint.specs.Repeated.{repeats, repeats_after}

@@ -1,5 +1,5 @@
 -- The check for variables that aren't bound is exact.
-use Rattle.std.proofs.Common.{◌≡◌, ℕ, Bool, true, false, if◌then◌else◌, Option, Some, None, refl, sym, ap, ◌∙◌, subst, arith}
+use Rattle.std.proofs.Common.{◌≡◌, Bool, true, false, if◌then◌else◌, Some, None, refl, sym, ap, ◌∙◌, subst, arith}
 use Rattle.hy_core.specs.NodeFaults.{IsUnbound, unbound as is_unbound}
 use Rattle.hy_core.specs.Nodes.{Piece, AnExpr, APattern, FirstPattern, Context, Node, node}
 use Rattle.hy_core.specs.declared.fault.Form.{Form}

@@ -1,5 +1,5 @@
 -- The nodes of an expression behind its own.
-use Rattle.std.specs.Prelude.{◌≡◌, ℕ, if◌then◌else◌, List, [], ◌∷◌, ◌++◌, length}
+use Rattle.std.specs.Prelude.{if◌then◌else◌, List, [], ◌∷◌, ◌++◌, length}
 use Rattle.hy_core.specs.declared.place.Place.TheVariants.{Applied, Timeout}
 use Rattle.hy_core.specs.Nodes.{Nodes, clause_nodes, definition_nodes, nodes, names_of, is_nil_layer, for_one, for_values, inside, at_place, binding, defining, patterns_of_first}
 use Rattle.hy_core.specs.declared.tree.Clause.{Clause}

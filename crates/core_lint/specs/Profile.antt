@@ -1,5 +1,5 @@
 -- The check for forms outside the profile.
-use Rattle.std.specs.Prelude.{ℕ, pos, ◌&&◌, not, List, [], ◌∷◌, length, codes, Bool, true, false, Option, Some, None, if◌then◌else◌, is_some}
+use Rattle.std.specs.Prelude.{pos, ◌&&◌, List, [], ◌∷◌, length, codes, Bool, true, false, Option, Some, None, if◌then◌else◌, is_some}
 use Rattle.std.specs.Ordering.{int_eq}
 use Rattle.std.specs.Str.{bytes_eq}
 use Rattle.hy_terms.specs.Naming.{text_of}

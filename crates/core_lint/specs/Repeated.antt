@@ -1,5 +1,5 @@
 -- The check for variables that are bound twice at once.
-use Rattle.std.specs.Prelude.{ℕ, ◌||◌, Bool, true, false, if◌then◌else◌, List, [], ◌∷◌, ◌++◌, Option, Some, None}
+use Rattle.std.specs.Prelude.{ℕ, ◌||◌, Bool, true, false, List, [], ◌∷◌, ◌++◌, Option, Some, None}
 use Rattle.hy_core.specs.SubPatterns.{clause_variables}
 use Rattle.hy_core.specs.declared.fault.Form.{Form}
 use Rattle.hy_core.specs.declared.fault.Form.TheVariants.{Absent}

@@ -1,5 +1,5 @@
 -- Looking at nodes one after another, up to the first at which a check fails. This project's own.
-use Rattle.std.specs.Prelude.{◌≡◌, ℕ, suc, Bool, List, [], ◌∷◌, ◌++◌, Option, Some, None, Result}
+use Rattle.std.specs.Prelude.{◌≡◌, ℕ, suc, Bool, List, [], ◌∷◌, Option, Some, None, Result}
 use Rattle.std.specs.declared.result.Result.TheVariants.{Ok, Err}
 use Rattle.hy_core.specs.Nodes.{AnExpr, APattern, FirstPattern, Context, Node}
 use Rattle.hy_core.specs.declared.fault.Form.{Form}

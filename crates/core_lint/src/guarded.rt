@@ -20,7 +20,7 @@ fn is_plain(built_in: Option<BuiltIn>) -> bool
 {
     match built_in {
         Some(BuiltIn::Plain) => true,
-        Some(BuiltIn::Spawn) | Some(BuiltIn::Other) | None => false,
+        Some(BuiltIn::Spawn | BuiltIn::Other) | None => false,
     }
 }
 

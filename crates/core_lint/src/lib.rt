@@ -1,4 +1,4 @@
-//! Finds the faults of a program.
+//! Finds the faults of a program: of some kinds the first, exactly.
 #![tactic(auto)]
 
 mod built_in;
@@ -20,17 +20,9 @@ mod unbound;
 mod valued;
 mod walk;
 
-pub use built_in::{BuiltIn, atom_of, called};
-pub use check::Check;
-pub use first::first_in_program;
 pub use guarded::forbidden_in_guard;
-pub use locals::Locals;
 pub use named::repeated_module;
-pub use position::{Position, Spot};
 pub use profile::forbidden_form;
 pub use repeated::repeated_variable;
-pub use scope::Scope;
-pub use stop::{Found, Stop};
 pub use unbound::unbound_variable;
 pub use valued::wrong_values;
-pub use walk::walk_expr;

@@ -1,4 +1,4 @@
-use Rattle.std.proofs.Common.{◌≡◌, ◌++◌, [], ◌∷◌, ◌+◌, not, drop, if◌then◌else◌, sym, ap, ◌∙◌}
+use Rattle.std.proofs.Common.{◌++◌, [], ◌∷◌, ◌+◌, drop, if◌then◌else◌, sym, ap, ◌∙◌}
 use Rattle.std.specs.List.{slice_index_or}
 use Rattle.core_lint.specs.Repeated.{repeats_after}
 use Rattle.core_lint.proofs.RepeatedLemmas.{not_seen, not-true, seen_again}

@@ -1,4 +1,4 @@
-use Rattle.std.proofs.Common.{◌≡◌, ◌+◌, ◌<◌, ◌++◌, [], ◌∷◌, length, ap, sym, ◌∙◌, arith, rules, subst, Fits, w64}
+use Rattle.std.proofs.Common.{◌+◌, ◌<◌, length, ap, ◌∙◌, arith, rules, subst}
 use Rattle.core_lint.specs.Bound.{Counts}
 use Rattle.std.specs.List.{slice_set}
 use Rattle.core_lint.proofs.BoundLemmas.{counts-bound, counts-read, counts-grown, times_bound-≤}

@@ -1,5 +1,4 @@
-use Rattle.std.proofs.Common.{◌≡◌, nat_lt, ap, sym, ◌∙◌, arith, rules}
-use Rattle.std.proofs.lemmas.Grind.{common_steps}
+use Rattle.std.proofs.Common.{nat_lt, ap, sym, ◌∙◌, rules}
 use Rattle.std.proofs.lemmas.List.{get_or_past}
 use Rattle.core_lint.specs.Bound.{is_bound}
 use Rattle.core_lint.proofs.BoundLemmas.{is_bound-times, counts-read}

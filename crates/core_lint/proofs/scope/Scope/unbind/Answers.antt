@@ -1,6 +1,5 @@
-use Rattle.std.proofs.Common.{◌≡◌, ◌+◌, ◌-◌, ◌<◌, ◌++◌, [], ◌∷◌, length, ap, sym, ◌∙◌, arith, rules, subst}
+use Rattle.std.proofs.Common.{◌≡◌, ◌-◌, ◌++◌, [], ◌∷◌, arith, rules, subst}
 use Rattle.core_lint.specs.Bound.{Counts}
-use Rattle.std.specs.List.{slice_set}
 use Rattle.core_lint.proofs.BoundLemmas.{counts-left, counts-read, counts-within, times_bound-last}
 use Rattle.std.proofs.lemmas.Grind.{get_or_default_zero}
 use Rattle.core_lint.proofs.scope.Scope.unbind.Goals as goal
