@@ -1,0 +1,15 @@
+pub mod BoundLemmas
+pub mod CalledLemmas
+pub mod Exact
+pub mod FirstLemmas
+pub mod OfKind
+pub mod GuardedExact
+pub mod NamedExact
+pub mod NodesLemmas
+pub mod PatternsLemmas
+pub mod ProfileExact
+pub mod RepeatedExact
+pub mod RepeatedLemmas
+pub mod UnboundExact
+pub mod ValuedExact
+pub mod WalkLemmas

@@ -1,0 +1,7 @@
+use Rattle.std.proofs.Common.{◌≡◌, drop}
+use Rattle.core_lint.specs.First.{first_in_functions}
+use Rattle.core_lint.proofs.first.first_in_module.Given as goal
+
+abbrev pub invariant-loop-j : goal.invariant-loop-j
+invariant-loop-j g l =
+    first_in_functions (g.C.Check.forms l.check) l.kind l.place l.names l.j (drop l.j l.functions) ≡ first_in_functions (g.C.Check.forms l.check) l.kind l.place l.names 0 l.functions

@@ -1,0 +1,12 @@
+use Rattle.core_lint.specs.First.{IsFaultOf, first_in_modules}
+use Rattle.core_lint.specs.Unbound.{unbound}
+use Rattle.core_lint.proofs.Exact.{answers, exact_first}
+use Rattle.core_lint.proofs.OfKind.{AtNoFunction, UnboundAt, unbound_from, unbound_to}
+use Rattle.core_lint.proofs.UnboundExact.{unbound_exact}
+use Rattle.core_lint.proofs.unbound.unbound_variable.Goals as goal
+
+pub returns : goal.returns
+returns c =
+    let program = c.args.program.now in
+    answers (IsFaultOf program 4) c.first_in_program.result (first_in_modules unbound 4 0) c.as_slice.result.now program.given c.first_in_program.ensures c.as_slice.ensures
+    (exact_first unbound UnboundAt AtNoFunction unbound_exact program 4 (unbound_from program) (unbound_to program))

@@ -1,0 +1,13 @@
+pub mod Bound
+pub mod Called
+pub mod First
+pub mod GuardForm
+pub mod Guarded
+pub mod Named
+pub mod Parts
+pub mod PatternParts
+pub mod Profile
+pub mod Repeated
+pub mod Unbound
+pub mod Valued
+pub mod Walk

@@ -1,0 +1,99 @@
+ghost use Rattle.std.specs.Prelude.{◌≡◌, IfOk};
+ghost use Rattle.core_lint.specs.First.{Tells, function_outcome, first_in_functions, first_in_modules};
+
+use crate::check::Check;
+use crate::locals::Locals;
+use crate::position::{Position, Spot};
+use crate::scope::Scope;
+use crate::stop::{Found, Stop};
+use crate::walk::walk_expr;
+use hy_core::{Form, Function, LintFault, Module, Place};
+use hy_terms::Memory;
+use std::alloc::Global;
+
+/// A place as a number of a fault.
+pub fn number(place: usize) -> Result<u32, Memory>
+    ensures { IfOk result (λ n. n ≡ place) }
+{
+    if place > u32::MAX as usize {
+        return Err(Memory);
+    }
+    Ok(place as u32)
+}
+
+// The first node of a function at which the check fails.
+fn first_node<C: Check>(
+    alloc: Global,
+    check: &C,
+    names: &Module,
+    place: usize,
+    function: &Function,
+) -> Result<Option<Found>, Memory>
+    ensures { IfOk result (λ found. Tells found (function_outcome (C.forms check.now) names.now place function.now)) }
+{
+    if check.function_fault(names, place, function)? {
+        return Ok(Some(Found {
+            node: 0,
+            form: Form::Absent,
+        }));
+    }
+    let mut at = Position {
+        node: 0,
+        scope: Scope::new(alloc),
+        locals: Locals::new(alloc),
+    };
+    at.scope.bind_all(function.params.as_slice())?;
+    let spot = Spot {
+        needs: 1,
+        in_guard: false,
+        place: Place::Anywhere,
+    };
+    match walk_expr(check, names, &mut at, spot, &function.body) {
+        Ok(()) => Ok(None),
+        Err(Stop::Found(found)) => Ok(Some(found)),
+        Err(Stop::Memory) => Err(Memory),
+    }
+}
+
+// The first fault in the functions of the module at this place.
+fn first_in_module<C: Check>(
+    alloc: Global,
+    check: &C,
+    kind: u8,
+    place: usize,
+    names: &Module,
+) -> Result<Option<LintFault>, Memory>
+    ensures { IfOk result (λ fault. fault ≡ first_in_functions (C.forms check.now) kind place names.now 0 names.now.functions) }
+{
+    let functions = names.functions.as_slice();
+    for (j, function) in functions.iter().enumerate() {
+        if let Some(found) = first_node(alloc, check, names, j, function)? {
+            return Ok(Some(LintFault {
+                kind,
+                module: number(place)?,
+                function: number(j)?,
+                node: found.node,
+                form: found.form,
+            }));
+        }
+    }
+    Ok(None)
+}
+
+/// The first fault of this kind in the functions of modules.
+pub fn first_in_program<C: Check>(
+    alloc: Global,
+    check: &C,
+    kind: u8,
+    modules: &[Module],
+) -> Result<Option<LintFault>, Memory>
+    ensures { IfOk result (λ fault. fault ≡ first_in_modules (C.forms check.now) kind 0 modules.now) }
+{
+    for (i, names) in modules.iter().enumerate() {
+        let found = first_in_module(alloc, check, kind, i, names)?;
+        if found.is_some() {
+            return Ok(found);
+        }
+    }
+    Ok(None)
+}

@@ -1,0 +1,28 @@
+//! Finds the faults of a program: of some kinds the first, exactly.
+#![tactic(auto)]
+
+mod built_in;
+mod cases;
+mod check;
+mod first;
+mod guard_form;
+mod guarded;
+mod locals;
+mod named;
+mod names;
+mod patterns;
+mod position;
+mod profile;
+mod repeated;
+mod scope;
+mod stop;
+mod unbound;
+mod valued;
+mod walk;
+
+pub use guarded::forbidden_in_guard;
+pub use named::repeated_module;
+pub use profile::forbidden_form;
+pub use repeated::repeated_variable;
+pub use unbound::unbound_variable;
+pub use valued::wrong_values;

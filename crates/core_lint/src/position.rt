@@ -1,0 +1,67 @@
+ghost use Rattle.std.specs.Prelude.{◌≡◌, true};
+ghost use Rattle.hy_core.specs.declared.place.Place.TheVariants.{Anywhere, WholeGuard};
+
+use crate::locals::Locals;
+use crate::scope::Scope;
+use hy_core::Place;
+
+/// Where a walk is: the number of the next node, and what is bound around it.
+#[derive(Drop)]
+pub struct Position {
+    pub node: u32,
+    pub scope: Scope,
+    pub locals: Locals,
+}
+
+/// What the place of an expression asks of it.
+#[derive(Clone, Copy, Debug, PartialEq, Eq)]
+pub struct Spot {
+    pub needs: usize,
+    pub in_guard: bool,
+    pub place: Place,
+}
+
+impl Spot {
+    /// As many values as the whole needs.
+    pub fn inside(self) -> Spot
+        ensures { result ≡ record self { place = Anywhere } }
+    {
+        Spot {
+            place: Place::Anywhere,
+            ..self
+        }
+    }
+
+    /// So many values.
+    pub fn for_values(self, needs: usize) -> Spot
+        ensures { result ≡ record self { needs = needs; place = Anywhere } }
+    {
+        Spot {
+            needs,
+            place: Place::Anywhere,
+            ..self
+        }
+    }
+
+    /// One value, at a place of its own kind.
+    pub fn at_place(self, place: Place) -> Spot
+        ensures { result ≡ record self { needs = 1; place = place } }
+    {
+        Spot {
+            needs: 1,
+            place,
+            ..self
+        }
+    }
+
+    /// The guard of a clause.
+    pub fn guarding(self) -> Spot
+        ensures { result ≡ record { needs = 1; in_guard = true; place = WholeGuard } }
+    {
+        Spot {
+            needs: 1,
+            in_guard: true,
+            place: Place::WholeGuard,
+        }
+    }
+}
