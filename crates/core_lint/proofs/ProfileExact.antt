@@ -269,7 +269,7 @@ least m n g (a_spawn {c = c} a b args op h) =
     ∙ ap (λ z. if is_spawn (called m (atom_layer z) (atom_layer (out-Expr (v.Atom b))) (length args)) then unless (is_spawnable args) form.Spawn else None) (outs-Atom a)
     ∙ ap (λ z. if is_spawn (called m (Some a) (atom_layer z) (length args)) then unless (is_spawnable args) form.Spawn else None) (outs-Atom b)
     ∙ ap (λ o. if is_spawn o then unless (is_spawnable args) form.Spawn else None) (called-operation m a b (length args) ∙ ap does_of op)
-    ∙ ap (λ b. unless b form.Spawn) (false-of (is_spawnable args) (λ e. h (spawnable-is args e))))
+    ∙ ap (λ b. unless b form.Spawn) (false-of (is_spawnable args) (λ e. h (spawnable-is m args e))))
 
 pub profile_exact : IsExact profile FormAt AtNoFunction
 profile_exact = record {

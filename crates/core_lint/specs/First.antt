@@ -9,7 +9,12 @@ use Rattle.hy_core.specs.declared.tree.Function.{Function}
 use Rattle.hy_core.specs.declared.tree.Module.{Module}
 use Rattle.hy_core.specs.declared.tree.Program.{Program}
 use Rattle.core_lint.specs.Walk.{Forms, Outcome, Passed, Fails, form_at, walked}
+use Rattle.core_lint.specs.declared.position.Position.{Position}
 use Rattle.core_lint.specs.declared.stop.Found.{Found}
+
+-- nothing is bound
+abbrev pub IsOutside : Position → Type 0
+IsOutside at = (at.scope ≡ []) × (at.locals ≡ [])
 
 -- what comes of looking at a function
 abbrev pub function_outcome : Forms → Module → (place : ℕ) → Function → Outcome

@@ -1,5 +1,5 @@
-ghost use Rattle.std.specs.Prelude.{◌≡◌, IfOk};
-ghost use Rattle.core_lint.specs.First.{Tells, function_outcome, first_in_functions, first_in_modules};
+ghost use Rattle.std.specs.Prelude.{◌≡◌, IfOk, None};
+ghost use Rattle.core_lint.specs.First.{IsOutside, Tells, function_outcome, first_in_functions, first_in_modules};
 
 use crate::check::Check;
 use crate::locals::Locals;
@@ -21,15 +21,18 @@ pub fn number(place: usize) -> Result<u32, Memory>
     Ok(place as u32)
 }
 
-// The first node of a function at which the check fails.
+// The first node of a function at which the check fails, from where nothing is bound; where none fails, nothing is
+// bound again. The position keeps its memory from one function to the next, however many variables a module has.
 fn first_node<C: Check>(
-    alloc: Global,
     check: &C,
     names: &Module,
+    at: &mut Position,
     place: usize,
     function: &Function,
 ) -> Result<Option<Found>, Memory>
-    ensures { IfOk result (λ found. Tells found (function_outcome (C.forms check.now) names.now place function.now)) }
+    requires { IsOutside at.old }
+    ensures found { IfOk result (λ found. Tells found (function_outcome (C.forms check.now) names.now place function.now)) }
+    ensures outside { IfOk result (λ found. found ≡ None → IsOutside at.new) }
 {
     if check.function_fault(names, place, function)? {
         return Ok(Some(Found {
@@ -37,19 +40,18 @@ fn first_node<C: Check>(
             form: Form::Absent,
         }));
     }
-    let mut at = Position {
-        node: 0,
-        scope: Scope::new(alloc),
-        locals: Locals::new(alloc),
-    };
+    at.node = 0;
     at.scope.bind_all(function.params.as_slice())?;
     let spot = Spot {
         needs: 1,
         in_guard: false,
         place: Place::Anywhere,
     };
-    match walk_expr(check, names, &mut at, spot, &function.body) {
-        Ok(()) => Ok(None),
+    match walk_expr(check, names, at, spot, &function.body) {
+        Ok(()) => {
+            at.scope.leave(0);
+            Ok(None)
+        }
         Err(Stop::Found(found)) => Ok(Some(found)),
         Err(Stop::Memory) => Err(Memory),
     }
@@ -65,9 +67,14 @@ fn first_in_module<C: Check>(
 ) -> Result<Option<LintFault>, Memory>
     ensures { IfOk result (λ fault. fault ≡ first_in_functions (C.forms check.now) kind place names.now 0 names.now.functions) }
 {
+    let mut at = Position {
+        node: 0,
+        scope: Scope::new(alloc),
+        locals: Locals::new(alloc),
+    };
     let functions = names.functions.as_slice();
     for (j, function) in functions.iter().enumerate() {
-        if let Some(found) = first_node(alloc, check, names, j, function)? {
+        if let Some(found) = first_node(check, names, &mut at, j, function)? {
             return Ok(Some(LintFault {
                 kind,
                 module: number(place)?,
