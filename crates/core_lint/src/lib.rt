@@ -16,6 +16,8 @@ mod profile;
 mod repeated;
 mod scope;
 mod stop;
+#[cfg(test)]
+mod tests;
 mod unbound;
 mod valued;
 mod walk;
