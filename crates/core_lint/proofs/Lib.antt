@@ -11,3 +11,4 @@ pub mod RepeatedLemmas
 pub mod UnboundExact
 pub mod ValuedExact
 pub mod WalkLemmas
+pub mod TableLemmas
