@@ -12,3 +12,5 @@ pub mod UnboundExact
 pub mod ValuedExact
 pub mod WalkLemmas
 pub mod TableLemmas
+pub mod PlacesLemmas
+pub mod KeyLemmas
