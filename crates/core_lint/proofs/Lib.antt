@@ -14,3 +14,5 @@ pub mod WalkLemmas
 pub mod TableLemmas
 pub mod PlacesLemmas
 pub mod KeyLemmas
+pub mod LocalLemmas
+pub mod InfosLemmas
