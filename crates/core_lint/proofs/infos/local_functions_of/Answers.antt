@@ -1,4 +1,4 @@
-use Rattle.std.proofs.Common.{◌≡◌, ◌∙◌, sym, arith, [], false}
+use Rattle.std.proofs.Common.{arith, [], false}
 use Rattle.hy_core.specs.declared.place.Place.TheVariants.{Anywhere}
 use Rattle.core_lint.proofs.LocalLemmas.{counted}
 use Rattle.core_lint.proofs.infos.local_functions_of.Goals as goal

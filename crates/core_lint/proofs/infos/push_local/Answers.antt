@@ -1,4 +1,4 @@
-use Rattle.std.proofs.Common.{◌≡◌, ◌+◌, ◌++◌, ◌∙◌, ap, sym, drop, length, map, replicate, append_assoc}
+use Rattle.std.proofs.Common.{◌+◌, ◌++◌, ◌∙◌, ap, sym, drop, length, map, replicate, append_assoc}
 use Rattle.hy_core.specs.SubPatterns.{joined}
 use Rattle.hy_core.specs.Tables.{info_of, local_functions, local_infos}
 use Rattle.core_lint.proofs.TableLemmas.{drop-item}

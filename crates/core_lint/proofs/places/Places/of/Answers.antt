@@ -1,4 +1,4 @@
-use Rattle.std.proofs.Common.{◌≡◌, ◌++◌, ◌∷◌, [], ◌∙◌, None, ap, sym}
+use Rattle.std.proofs.Common.{◌++◌, ◌∷◌, [], ◌∙◌, ap, sym}
 use Rattle.hy_terms.specs.Naming.{place_in}
 use Rattle.core_lint.proofs.PlacesLemmas.{absent_before, take-at}
 use Rattle.core_lint.proofs.places.Places.of.Goals as goal
