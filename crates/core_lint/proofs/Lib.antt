@@ -13,3 +13,8 @@ pub mod RepeatedLemmas
 pub mod UnboundExact
 pub mod ValuedExact
 pub mod WalkLemmas
+pub mod TableLemmas
+pub mod PlacesLemmas
+pub mod KeyLemmas
+pub mod LocalLemmas
+pub mod InfosLemmas

@@ -11,3 +11,4 @@ pub mod Repeated
 pub mod Unbound
 pub mod Valued
 pub mod Walk
+pub mod LocalCount

@@ -1,10 +1,12 @@
-//! Faults of small programs, built by hand.
+//! Faults and tables of small programs, built by hand.
 
 use crate::{
-    forbidden_form, forbidden_in_guard, repeated_module, repeated_variable, unbound_variable,
-    wrong_values,
+    forbidden_form, forbidden_in_guard, function_table, program_table, repeated_module,
+    repeated_variable, unbound_variable, wrong_values,
 };
-use hy_core::{Clause, Expr, Form, FunName, Function, LintFault, Module, Pattern, Program};
+use hy_core::{
+    Clause, Expr, Form, FunInfo, FunName, Function, LintFault, Module, Pattern, Program,
+};
 use hy_terms::Atoms;
 use sqlite_items::{Boxed, Items};
 use std::alloc::Global;
@@ -177,5 +179,55 @@ fn names(rt: HostRuntime) -> Result<(), Fail> {
         form: Form::Absent,
     };
     assert_eq!(rt; repeated_module(&program)?, Some(fault));
+    Ok(())
+}
+
+/// `letrec 'h'/0 = fun () -> 1 in 2`, in a module of two functions.
+fn letrec_body(alloc: Global) -> Result<Expr, Fail> {
+    let local = function(alloc, FunName { name: 2, arity: 0 }, Expr::Int(1));
+    Ok(Expr::Letrec {
+        functions: Items::from_vec(vec![in alloc; local]?),
+        body: Boxed::new(alloc, Expr::Int(2))?,
+    })
+}
+
+#[test]
+fn tables(rt: HostRuntime) -> Result<(), Fail> {
+    let alloc = rt.alloc();
+    let program = program_of(alloc, letrec_body(alloc)?)?;
+    let table = program_table(alloc, &program)?;
+    let texts: [&[u8]; 11] = [
+        b"true",
+        b"false",
+        b"badarith",
+        b"badarg",
+        b"system_limit",
+        b"no_clause",
+        b"function_clause",
+        b"a",
+        b"f",
+        b"g",
+        b"b",
+    ];
+    assert_eq!(rt; table.len(), 11);
+    for (atom, text) in texts.iter().enumerate() {
+        assert_eq!(rt; table.text(atom as u32), *text);
+    }
+    let infos = function_table(alloc, &program, &table)?;
+    let rows: [(u32, u32); 5] = [(7, 8), (7, 9), (10, 8), (10, 9), (10, 9)];
+    assert_eq!(rt; infos.len(), 5);
+    for (info, row) in infos.iter().zip(rows.iter()) {
+        let name = FunName {
+            name: row.1,
+            arity: 0,
+        };
+        assert_eq!(rt;
+            *info,
+            FunInfo {
+                module: row.0,
+                name
+            }
+        );
+    }
     Ok(())
 }
