@@ -1,0 +1,13 @@
+pub mod FunctionLemmas
+pub mod CountingLemmas
+pub mod FormLemmas
+pub mod InfosLemmas
+pub mod KeyLemmas
+pub mod LocalLemmas
+pub mod ModulesLemmas
+pub mod NodesLemmas
+pub mod NumberedLemmas
+pub mod PatternsLemmas
+pub mod PlacesLemmas
+pub mod SiteLemmas
+pub mod TableLemmas
