@@ -41,11 +41,16 @@ module _ (forms : Forms) (AtNode : Module → Node → Form → Type 0) (AtFunct
   of_kind x (in_function around h) = refl
   of_kind x (in_node stands h) = refl
 
+  -- where the faults that a check shows are those that hold
+  pub holding_first : (Holds : LintFault → Type 0) → ((x : LintFault) → KindFault AtNode AtFunction program kind x → Holds x) → ((x : LintFault) → Holds x → KindFault AtNode AtFunction program kind x)
+      → IsFirst Holds (first_in_modules forms kind 0 program.given)
+  holding_first Holds from to =
+      first_of (λ x h. from x (shown_is x h)) (λ y h. is_shown y (to y h)) (first_in_modules forms kind 0 program.given) (first_shown forms kind program)
+
   -- where the faults of this kind are those of the program
   pub exact_first : ((x : LintFault) → KindFault AtNode AtFunction program kind x → IsFault program x) → ((x : LintFault) → IsFault program x → x.kind ≡ kind → KindFault AtNode AtFunction program kind x)
       → IsFirst (IsFaultOf program kind) (first_in_modules forms kind 0 program.given)
-  exact_first from to =
-      first_of (λ x h. let k = shown_is x h in record { holds = from x k; of_kind = of_kind x k }) (λ y h. is_shown y (to y h.holds h.of_kind)) (first_in_modules forms kind 0 program.given) (first_shown forms kind program)
+  exact_first from to = holding_first (IsFaultOf program kind) (λ x k. record { holds = from x k; of_kind = of_kind x k }) (λ y h. to y h.holds h.of_kind)
 
 -- an answer that is the first in the given modules
 pub answers : (Holds : LintFault → Type 0) (r : Result (Option LintFault) Memory) (first : List Module → Option LintFault) (modules given : List Module) → IfOk r (λ fault. fault ≡ first modules) → modules ≡ given → IsFirst Holds (first given) → IfOk r (IsFirst Holds)

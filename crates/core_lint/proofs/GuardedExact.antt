@@ -19,14 +19,14 @@ use Rattle.hy_core.specs.declared.tree.Expr.TheVariants as v
 use Rattle.hy_core.specs.declared.tree.Expr.TheViews.{out-Expr, roll-Expr, roll-out-Expr, outs-Int, outs-Atom, outs-Nil, outs-Var, outs-Let, outs-Call, outs-Try}
 use Rattle.hy_core.specs.declared.tree.Function.{Function}
 use Rattle.hy_core.specs.declared.tree.Module.{Module}
-use Rattle.core_lint.specs.Called.{called}
+use Rattle.core_names.specs.Called.{called, does_of}
 use Rattle.core_lint.specs.GuardForm.{has_guard_form, is_false, is_variable, is_whole_guard}
 use Rattle.core_lint.specs.Guarded.{guarded, is_allowed, is_plain}
 use Rattle.core_lint.specs.Repeated.{form_if}
 use Rattle.core_lint.specs.Walk.{form_at}
-use Rattle.core_lint.specs.declared.built_in.BuiltIn.{BuiltIn}
-use Rattle.core_lint.specs.declared.built_in.BuiltIn.TheVariants.{Plain, Spawn, Other}
-use Rattle.core_lint.proofs.CalledLemmas.{called-operation, does-Plain, does_of}
+use Rattle.core_names.specs.declared.built_in.BuiltIn.{BuiltIn}
+use Rattle.core_names.specs.declared.built_in.BuiltIn.TheVariants.{Plain, Setelement, Spawn, Other}
+use Rattle.core_names.proofs.CalledLemmas.{does-Plain}
 use Rattle.core_lint.proofs.Exact.{IsExact}
 use Rattle.core_lint.proofs.OfKind.{AtNoFunction, GuardAt}
 use Rattle.core_lint.proofs.RepeatedExact.{form_if-Some}
@@ -103,6 +103,7 @@ guard_form-complete m t (three_caught x a b c d n text) = (x, a ∷ [], v.Var a,
 plain-is : (o : Option BuiltIn) → is_plain o ≡ true → o ≡ Some Plain
 plain-is None e = absurd cc
 plain-is (Some Plain) e = refl
+plain-is (Some Setelement) e = absurd cc
 plain-is (Some Spawn) e = absurd cc
 plain-is (Some Other) e = absurd cc
 
@@ -123,7 +124,7 @@ allowed_at m place (layer.Call x y args) e = subst (IsGuardExpr m place) (sym (v
   where
     by : (a : Option ℕ) → atom_layer (out-Expr x) ≡ a → (b : Option ℕ) → atom_layer (out-Expr y) ≡ b → called m a b (length args) ≡ Some Plain → IsGuardExpr m place (v.Call x y args)
     by (Some a) p (Some b) q e =
-        let o = does-Plain (operation_named (text_of m.atoms a) (text_of m.atoms b) (length args)) (sym (called-operation m a b (length args)) ∙ e) in
+        let o = does-Plain (operation_named (text_of m.atoms a) (text_of m.atoms b) (length args)) e in
         subst (λ x. IsGuardExpr m place (v.Call x y args)) (sym (atom-is x a p)) (subst (λ y. IsGuardExpr m place (v.Call (v.Atom a) y args)) (sym (atom-is y b q)) (built_in a b args o.0 o.1))
     by (Some a) p None q e = absurd cc
     by None p b q e = absurd cc
@@ -142,7 +143,7 @@ allowed_kept m place x (built_in a b args bif e) =
     ap (is_allowed m place) (outs-Call (v.Atom a) (v.Atom b) args)
     ∙ ap (λ z. is_plain (called m (atom_layer z) (atom_layer (out-Expr (v.Atom b))) (length args))) (outs-Atom a)
     ∙ ap (λ z. is_plain (called m (Some a) (atom_layer z) (length args))) (outs-Atom b)
-    ∙ ap is_plain (called-operation m a b (length args) ∙ ap does_of e)
+    ∙ ap is_plain (ap does_of e)
 allowed_kept m place x (whole t h) = by (guard_form-complete m t h)
   where
     by : ((x : Expr) × (vars : List ℕ) × (y : Expr) × (caught : List ℕ) × (z : Expr) × (t ≡ v.Try x vars y caught z) × (has_guard_form m vars (out-Expr y) caught (out-Expr z) ≡ true)) → is_allowed m WholeGuard (out-Expr t) ≡ true

@@ -1,7 +1,6 @@
 -- The check for names of modules that repeat is exact.
-use Rattle.std.proofs.Common.{◌≡◌, ℕ, zero, suc, ◌+◌, ◌<◌, ◌||◌, Bool, true, false, List, [], ◌∷◌, take, length, slice_get, Option, Some, None, if◌then◌else◌, refl, sym, ap, ◌∙◌, subst, arith}
+use Rattle.std.proofs.Common.{◌≡◌, ℕ, zero, suc, ◌+◌, ◌<◌, ◌||◌, Bool, true, false, List, [], ◌∷◌, take, slice_get, Option, Some, None, if◌then◌else◌, refl, sym, ap, ◌∙◌, subst, arith}
 use Rattle.std.proofs.lemmas.Slice.Eq.{bytes_eq-Decides}
-use Rattle.std.specs.List.{Contains, slice_index_or}
 use Rattle.std.specs.Str.{bytes_eq}
 use Rattle.hy_core.specs.Faults as f
 use Rattle.hy_core.specs.Faults.{fault, IsFault, IsUpTo, lower, same, order_of}
@@ -12,6 +11,7 @@ use Rattle.hy_core.specs.declared.tree.Program.{Program}
 use Rattle.core_lint.specs.First.{IsFaultOf, IsFirst}
 use Rattle.core_lint.specs.Named.{first_repeated, is_named, repeats_name}
 use Rattle.core_lint.proofs.FirstLemmas.{first_of, upto_same}
+use Rattle.core_lint.proofs.PlaceLemmas.{get-index, get-take, index-get, take-get}
 
 named-found : (ms : List Module) (text : List ℕ) → is_named ms text ≡ true → (m : Module) × (k : ℕ) × (slice_get ms k ≡ Some m) × (module_name m ≡ text)
 named-found [] text e = absurd cc
@@ -29,28 +29,6 @@ named-kept (n ∷ ms) text (suc k) m at is = ap (λ b. bytes_eq (module_name n) 
     or-true : (b : Bool) → (b || true) ≡ true
     or-true true = refl
     or-true false = refl
-
-get-index : (ms : List Module) (k : ℕ) (m : Module) → slice_get ms k ≡ Some m → Contains ms m
-get-index [] k m at = absurd cc
-get-index (n ∷ ms) zero m at = let s : n ≡ m = cc in (0, omega arith, s)
-get-index (n ∷ ms) (suc k) m at = let h = get-index ms k m at in (suc h.0, omega (arith, h.1), h.2)
-
-index-get : (ms : List Module) (m : Module) (k : ℕ) → k < length ms → slice_index_or ms k m ≡ m → slice_get ms k ≡ Some m
-index-get [] m k below is = absurd (omega arith)
-index-get (n ∷ ms) m zero below is = ap (λ (x : Module). Some x) is
-index-get (n ∷ ms) m (suc k) below is = index-get ms m k (omega arith) is
-
-take-get : (ms : List Module) (i k : ℕ) (m : Module) → slice_get (take i ms) k ≡ Some m → (k < i) × (slice_get ms k ≡ Some m)
-take-get ms zero k m at = absurd cc
-take-get [] (suc i) k m at = absurd cc
-take-get (n ∷ ms) (suc i) zero m at = (omega arith, at)
-take-get (n ∷ ms) (suc i) (suc k) m at = let h = take-get ms i k m at in (omega (arith, h.0), h.1)
-
-get-take : (ms : List Module) (i k : ℕ) (m : Module) → k < i → slice_get ms k ≡ Some m → slice_get (take i ms) k ≡ Some m
-get-take ms zero k m below at = absurd (omega arith)
-get-take [] (suc i) k m below at = absurd cc
-get-take (n ∷ ms) (suc i) zero m below at = at
-get-take (n ∷ ms) (suc i) (suc k) m below at = get-take ms i k m (omega arith) at
 
 repeats-is : (program : Program) (i : ℕ) (m : Module) → repeats_name program i m ≡ true → RepeatsModule program i m
 repeats-is program i m e = by (is_named program.prelude (module_name m)) refl e

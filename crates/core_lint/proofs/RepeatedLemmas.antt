@@ -7,7 +7,7 @@ use Rattle.core_lint.specs.Bound.{is_bound}
 use Rattle.core_lint.specs.Repeated.{repeats, repeats_after}
 use Rattle.core_lint.proofs.BoundLemmas.{is_bound-Contains, Contains-is_bound}
 
-eqb-sym : (x y : ℕ) → (x == y) ≡ (y == x)
+pub eqb-sym : (x y : ℕ) → (x == y) ≡ (y == x)
 eqb-sym x y = by (x == y) refl (y == x) refl
   where
     by : (a : Bool) → (x == y) ≡ a → (b : Bool) → (y == x) ≡ b → a ≡ b

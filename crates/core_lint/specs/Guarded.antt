@@ -9,16 +9,17 @@ use Rattle.hy_core.specs.declared.tree.Expr.TheOpen.{Expr-F}
 use Rattle.hy_core.specs.declared.tree.Expr.TheViews.{out-Expr}
 use Rattle.hy_core.specs.declared.tree.Function.{Function}
 use Rattle.hy_core.specs.declared.tree.Module.{Module}
-use Rattle.core_lint.specs.Called.{called}
+use Rattle.core_names.specs.Called.{called}
 use Rattle.core_lint.specs.GuardForm.{has_guard_form, is_whole_guard}
 use Rattle.core_lint.specs.Repeated.{form_if}
 use Rattle.core_lint.specs.Walk.{Forms}
-use Rattle.core_lint.specs.declared.built_in.BuiltIn.{BuiltIn}
-use Rattle.core_lint.specs.declared.built_in.BuiltIn.TheVariants.{Plain, Spawn, Other}
+use Rattle.core_names.specs.declared.built_in.BuiltIn.{BuiltIn}
+use Rattle.core_names.specs.declared.built_in.BuiltIn.TheVariants.{Plain, Setelement, Spawn, Other}
 
 abbrev pub is_plain : Option BuiltIn → Bool
 is_plain None = false
 is_plain (Some Plain) = true
+is_plain (Some Setelement) = false
 is_plain (Some Spawn) = false
 is_plain (Some Other) = false
 

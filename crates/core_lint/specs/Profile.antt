@@ -17,11 +17,11 @@ use Rattle.hy_core.specs.declared.tree.Expr.TheOpen.{Expr-F}
 use Rattle.hy_core.specs.declared.tree.Expr.TheViews.{out-Expr}
 use Rattle.hy_core.specs.declared.tree.Function.{Function}
 use Rattle.hy_core.specs.declared.tree.Module.{Module}
-use Rattle.core_lint.specs.Called.{called}
+use Rattle.core_names.specs.Called.{called}
 use Rattle.core_lint.specs.GuardForm.{has_guard_form, is_whole_guard}
 use Rattle.core_lint.specs.Walk.{Forms}
-use Rattle.core_lint.specs.declared.built_in.BuiltIn.{BuiltIn}
-use Rattle.core_lint.specs.declared.built_in.BuiltIn.TheVariants.{Plain, Spawn, Other}
+use Rattle.core_names.specs.declared.built_in.BuiltIn.{BuiltIn}
+use Rattle.core_names.specs.declared.built_in.BuiltIn.TheVariants.{Plain, Setelement, Spawn, Other}
 
 abbrev pub is_applied : Place → Bool
 is_applied Anywhere = false
@@ -69,6 +69,7 @@ timeout_form m place y = if is_for_timeout place then unless (is_timeout m y) fo
 abbrev pub is_spawn : Option BuiltIn → Bool
 is_spawn None = false
 is_spawn (Some Plain) = false
+is_spawn (Some Setelement) = false
 is_spawn (Some Spawn) = true
 is_spawn (Some Other) = false
 

@@ -2,7 +2,7 @@ ghost use Rattle.std.specs.Prelude.{◌≡◌, IfOk, None};
 ghost use Rattle.core_lint.specs.First.{IsOutside, Tells, function_outcome, first_in_functions, first_in_modules};
 
 use crate::check::Check;
-use crate::locals::Locals;
+use crate::function_names::FunctionNames;
 use crate::position::{Position, Spot};
 use crate::scope::Scope;
 use crate::stop::{Found, Stop};
@@ -57,8 +57,8 @@ fn first_node<C: Check>(
     }
 }
 
-// The first fault in the functions of the module at this place.
-fn first_in_module<C: Check>(
+/// The first fault in the functions of the module at this place.
+pub fn first_in_module<C: Check>(
     alloc: Global,
     check: &C,
     kind: u8,
@@ -70,7 +70,7 @@ fn first_in_module<C: Check>(
     let mut at = Position {
         node: 0,
         scope: Scope::new(alloc),
-        locals: Locals::new(alloc),
+        locals: FunctionNames::new(alloc),
     };
     let functions = names.functions.as_slice();
     for (j, function) in functions.iter().enumerate() {

@@ -2,7 +2,7 @@ ghost use Rattle.std.specs.Prelude.{◌≡◌};
 ghost use Rattle.hy_core.specs.declared.tree.Expr.TheViews.{out-Expr};
 ghost use Rattle.core_lint.specs.GuardForm.{has_guard_form as is_of_guard_form, is_false as is_answer_false, is_variable as is_same_variable, is_whole_guard as is_guard_whole};
 
-use crate::names::atom_text;
+use core_names::atom_text;
 use hy_core::{Expr, Module, Place};
 
 fn is_false(names: &Module, expr: &Expr) -> bool

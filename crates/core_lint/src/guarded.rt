@@ -3,11 +3,11 @@ ghost use Rattle.hy_core.specs.declared.tree.Expr.TheViews.{out-Expr};
 ghost use Rattle.core_lint.specs.First.{IsFaultOf, IsFirst};
 ghost use Rattle.core_lint.specs.Guarded.{guarded, is_allowed as may_be_held, is_plain as is_built_in_plain};
 
-use crate::built_in::{BuiltIn, called};
 use crate::check::{Check, form_of};
 use crate::first::first_in_program;
 use crate::guard_form::{has_guard_form, is_whole_guard};
 use crate::position::{Position, Spot};
+use core_names::{BuiltIn, called};
 use hy_core::{Expr, Form, Function, LintFault, Module, Pattern, Place, Program};
 use hy_terms::Memory;
 use std::alloc::Global;
@@ -20,7 +20,7 @@ fn is_plain(built_in: Option<BuiltIn>) -> bool
 {
     match built_in {
         Some(BuiltIn::Plain) => true,
-        Some(BuiltIn::Spawn | BuiltIn::Other) | None => false,
+        Some(BuiltIn::Setelement | BuiltIn::Spawn | BuiltIn::Other) | None => false,
     }
 }
 

@@ -1,36 +1,39 @@
-//! Finds the faults of a program, of some kinds the first, exactly; and makes its tables of atoms and functions.
+//! The linter: the least fault of a program, or its own numbers and its tables.
 #![tactic(auto)]
 
-mod built_in;
+mod accepted;
+mod answer;
 mod cases;
 mod check;
+mod exports;
 mod first;
+mod function_names;
+mod functions;
+mod great_arity;
 mod guard_form;
 mod guarded;
-mod infos;
-mod local_count;
-mod locals;
+mod kinds;
+mod lesser;
+mod linted;
+mod main_export;
 mod named;
-mod names;
 mod patterns;
-mod places;
 mod position;
 mod profile;
 mod repeated;
+mod repeated_names;
 mod scope;
+mod sizes;
 mod stop;
-mod table;
 #[cfg(test)]
 mod tests;
+mod texts;
 mod unbound;
+mod undefined;
+mod unknown;
 mod valued;
 mod walk;
 
-pub use guarded::forbidden_in_guard;
-pub use infos::function_table;
-pub use named::repeated_module;
-pub use profile::forbidden_form;
-pub use repeated::repeated_variable;
-pub use table::program_table;
-pub use unbound::unbound_variable;
-pub use valued::wrong_values;
+pub use accepted::first_fault;
+pub use answer::LintAnswer;
+pub use linted::{Linted, lint};

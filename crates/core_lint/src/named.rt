@@ -4,7 +4,7 @@ ghost use Rattle.core_lint.specs.First.{IsFaultOf, IsFirst};
 ghost use Rattle.core_lint.specs.Named.{first_repeated as first_of_names, is_named as is_so_named, repeats_name as repeats_one};
 
 use crate::first::number;
-use crate::names::atom_text;
+use core_names::atom_text;
 use hy_core::{Form, LintFault, Module, Program};
 use hy_terms::Memory;
 

@@ -1,7 +1,7 @@
 ghost use Rattle.std.specs.Prelude.{◌≡◌, true};
 ghost use Rattle.hy_core.specs.declared.place.Place.TheVariants.{Anywhere, WholeGuard};
 
-use crate::locals::Locals;
+use crate::function_names::FunctionNames;
 use crate::scope::Scope;
 use hy_core::Place;
 
@@ -10,7 +10,7 @@ use hy_core::Place;
 pub struct Position {
     pub node: u32,
     pub scope: Scope,
-    pub locals: Locals,
+    pub locals: FunctionNames,
 }
 
 /// What the place of an expression asks of it.

@@ -3,13 +3,12 @@ ghost use Rattle.hy_core.specs.declared.tree.Expr.TheViews.{out-Expr};
 ghost use Rattle.core_lint.specs.First.{IsFaultOf, IsFirst};
 ghost use Rattle.core_lint.specs.Profile.{is_applied as is_place_applied, is_atom as is_one_atom, is_for_timeout as is_place_for_timeout, is_name as is_one_name, is_spawn as is_built_in_spawn, is_spawnable as are_spawnable, is_timeout as is_one_timeout, is_written_list as is_list_written, own_form as own_form_of, profile, spawn_form as spawn_form_of, timeout_form as timeout_form_of, unless as unless_so};
 
-use crate::built_in::{BuiltIn, atom_of, called};
 use crate::check::Check;
 use crate::first::first_in_program;
 use crate::guard_form::{has_guard_form, is_whole_guard};
-use crate::names::{atom_text, is_match_fail};
 use crate::position::{Position, Spot};
 use crate::walk::is_nil;
+use core_names::{BuiltIn, atom_of, atom_text, called, is_match_fail};
 use hy_core::{Expr, Form, Function, LintFault, Module, Pattern, Place, Program};
 use hy_terms::Memory;
 use std::alloc::Global;
@@ -117,7 +116,7 @@ fn is_spawn(built_in: Option<BuiltIn>) -> bool
 {
     match built_in {
         Some(BuiltIn::Spawn) => true,
-        Some(BuiltIn::Plain) | Some(BuiltIn::Other) | None => false,
+        Some(BuiltIn::Plain | BuiltIn::Setelement | BuiltIn::Other) | None => false,
     }
 }
 

@@ -7,8 +7,8 @@ ghost use Rattle.core_lint.specs.Valued.{all_have as all_have_patterns, differs 
 use crate::cases::needs_of_case;
 use crate::check::{Check, form_of};
 use crate::first::first_in_program;
-use crate::names::is_match_fail;
 use crate::position::{Position, Spot};
+use core_names::is_match_fail;
 use hy_core::{Clause, Expr, Form, Function, LintFault, Module, Pattern, Program};
 use hy_terms::Memory;
 use std::alloc::Global;

@@ -1,14 +1,15 @@
 ghost use Rattle.std.specs.Prelude.{◌≡◌, ◌+◌, [], ◌∷◌, OnOk};
 ghost use Rattle.hy_core.specs.Nodes.{AnExpr, node, nodes, clause_nodes, definition_nodes, pattern_nodes, at_place, binding, for_one, for_values, inside, is_nil_layer, names_of};
 ghost use Rattle.hy_core.specs.declared.tree.Expr.TheViews.{out-Expr};
-ghost use Rattle.core_lint.specs.Parts.{each_node, end_nodes, part_nodes};
+ghost use Rattle.core_tables.specs.Parts.{each_node, end_nodes, part_nodes};
 ghost use Rattle.core_lint.specs.Walk.{Walks, context_of, form_at};
 
 use crate::cases::needs_of_case;
 use crate::check::Check;
-use crate::patterns::{bind_patterns, pass_patterns};
+use crate::patterns::bind_patterns;
 use crate::position::{Position, Spot};
 use crate::stop::{Found, Stop};
+use core_tables::pass_patterns;
 use hy_core::{Clause, Expr, Function, Module, Pattern, Place};
 use hy_terms::Memory;
 

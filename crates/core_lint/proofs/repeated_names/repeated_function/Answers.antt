@@ -1,0 +1,13 @@
+use Rattle.std.proofs.Common.{ap, sym, ◌∙◌, subst}
+use Rattle.core_lint.specs.Earlier.{earlier}
+use Rattle.core_lint.specs.First.{IsFaultOf, IsFirst, first_in_modules}
+use Rattle.core_lint.specs.RepeatedNames.{first_repeated_function, repeated_names}
+use Rattle.core_lint.proofs.RepeatedNamesExact.{repeated_names_exact}
+use Rattle.core_lint.proofs.repeated_names.repeated_function.Goals as goal
+
+pub returns : goal.returns
+returns c =
+    let program = c.args.program.now in
+    let function = c.in_ok-function.ensures ∙ ap (first_repeated_function 0) c.as_slice-given.ensures in
+    let definition = c.in_ok-definition.ensures ∙ ap (first_in_modules repeated_names 2 0) c.as_slice-given.ensures in
+    subst (IsFirst (IsFaultOf program 2)) (sym (c.earlier.ensures ∙ (λ i. earlier (function i) (definition i)))) (repeated_names_exact program)
