@@ -299,6 +299,7 @@ word_refused words place word line now f.Usage r stands so_far gives is =
     subst (λ (k : Result Command TopFault). GivesCommand k (command_in words)) (sym is) (sym (next_word words place word line stands so_far) ∙ ap (λ (o : Option Line). read_on o (command_from (drop (place + 1) words))) gives)
 word_refused words place word line now (f.Read other) r stands so_far gives is = absurd gives
 word_refused words place word line now (f.Refused other refused) r stands so_far gives is = absurd gives
+word_refused words place word line now (f.Lint found) r stands so_far gives is = absurd gives
 word_refused words place word line now f.NotBuilt r stands so_far gives is = absurd gives
 word_refused words place word line now f.Write r stands so_far gives is = absurd gives
 word_refused words place word line now f.Memory r stands so_far gives is = subst (λ (k : Result Command TopFault). GivesCommand k (command_in words)) (sym is) tt

@@ -2,37 +2,22 @@
 use Rattle.std.proofs.Common.{◌≡◌, ℕ, suc, zero, ◌+◌, ◌<◌, List, [], ◌∷◌, length, slice_get, Option, Some, Ok, Err, inl, inr, refl, sym, ap, subst, arith}
 use Rattle.std.proofs.lemmas.Option.{slice_get_within, get_or_from_slice_get}
 use Rattle.std.specs.Prelude.{Contains, IfOk, IfErr, IfSome, IsErrOf}
+use Rattle.hy_core.specs.declared.fault.LintFault.{LintFault}
 use Rattle.hy_core.specs.declared.refusal.RefusalKind.{RefusalKind}
 use Rattle.hy_core.specs.declared.tree.Module.{Module}
 use Rattle.hybrid_run.specs.Answers.{Answers, Outside, IsUsageAnswer}
 use Rattle.hybrid_run.specs.CommandLine.{IsCommand, IsUsage, NameFiles}
 use Rattle.hybrid_run.specs.Faults.{FailsWith, HasWritten, IfNamesFile, IsOfCommand, IsOfFiles, IsRefusal, fault_of_answer, refused_at, status_of_answer}
-use Rattle.hybrid_run.specs.Headline.{Done, Cut, HasProgram, HasOtherProgram, IsAnswered, IsDoneStatus}
+use Rattle.hybrid_run.specs.Headline.{Done, Cut, HasProgram, HasOtherProgram, HasFault, IsAnswered, IsDoneStatus}
 use Rattle.hybrid_run.specs.Line.{GivesCommand, command_in}
 use Rattle.hybrid_run.specs.Loading.{Told, AreTold, AreRead, PassBefore, IsRefusedWhereTold}
 use Rattle.hybrid_run.specs.declared.command.Mode.{Mode}
 use Rattle.hybrid_run.specs.declared.fault.TopFault.{TopFault}
 use Rattle.hybrid_run.specs.declared.fault.TopFault.TheVariants as f
 use Rattle.outside.specs.Outside.{Rises}
-use Rattle.hybrid_run.proofs.Answering.{Answer, error_answer}
+use Rattle.hybrid_run.proofs.Answering.{Answer, error_answer, memory_answers}
 use Rattle.hybrid_run.proofs.Loaded.{file_at}
 use Rattle.hybrid_run.proofs.CommandReading.{one_command, is_command, is_usage}
-
--- want of memory answers every command
-memory_answers : (mode : Mode) (told : Told) (files : List (List ℕ)) (outside : Outside) → Answers mode told files outside (Err f.Memory)
-memory_answers mode told files outside = record {
-  done = tt;
-  accepted = λ bad. absurd bad;
-  cut = λ bad. absurd cc;
-  refuses = λ bad. absurd bad;
-  not_built = λ other. inr (inr refl);
-  not_built_only = λ bad. absurd cc;
-  source = λ file kind place first. inr (inr refl);
-  source_only = λ file kind place bad. absurd cc;
-  behind = tt;
-  read = λ file name bad. absurd cc;
-  kinds = tt;
-}
 
 -- ---- the words
 
@@ -50,6 +35,7 @@ pub unread_answers : (words : List (List ℕ)) (fault : TopFault) (told : Told) 
 unread_answers words f.Usage told outside none mode files c = absurd (is_usage words none mode files c)
 unread_answers words (f.Read file) told outside none mode files c = absurd none
 unread_answers words (f.Refused file refused) told outside none mode files c = absurd none
+unread_answers words (f.Lint found) told outside none mode files c = absurd none
 unread_answers words f.NotBuilt told outside none mode files c = absurd none
 unread_answers words f.Write told outside none mode files c = absurd none
 unread_answers words f.Memory told outside none mode files c = memory_answers mode told files outside
@@ -58,6 +44,7 @@ pub unread_only : (words : List (List ℕ)) (fault : TopFault) → GivesCommand 
 unread_only words f.Usage none is = is_usage words none
 unread_only words (f.Read file) none is = absurd none
 unread_only words (f.Refused file refused) none is = absurd none
+unread_only words (f.Lint found) none is = absurd none
 unread_only words f.NotBuilt none is = absurd none
 unread_only words f.Write none is = absurd none
 unread_only words f.Memory none is = absurd cc
@@ -69,6 +56,7 @@ done_is (Ok n) Holds h low = h
 done_is (Err f.Usage) Holds h low = absurd (omega (arith, low))
 done_is (Err (f.Read file)) Holds h low = absurd (omega (arith, low))
 done_is (Err (f.Refused file refused)) Holds h low = absurd (omega (arith, low))
+done_is (Err (f.Lint found)) Holds h low = absurd (omega (arith, low))
 done_is (Err f.NotBuilt) Holds h low = absurd (omega (arith, low))
 done_is (Err f.Write) Holds h low = absurd (omega (arith, low))
 done_is (Err f.Memory) Holds h low = absurd (omega (arith, low))
@@ -78,6 +66,7 @@ done_written (Ok n) low = tt
 done_written (Err f.Usage) low = absurd (omega (arith, low))
 done_written (Err (f.Read file)) low = absurd (omega (arith, low))
 done_written (Err (f.Refused file refused)) low = absurd (omega (arith, low))
+done_written (Err (f.Lint found)) low = absurd (omega (arith, low))
 done_written (Err f.NotBuilt) low = absurd (omega (arith, low))
 done_written (Err f.Write) low = tt
 done_written (Err f.Memory) low = absurd (omega (arith, low))
@@ -87,6 +76,7 @@ write_failed (Ok n) low is = absurd (omega (arith, low, is))
 write_failed (Err f.Usage) low is = absurd (omega (arith, is))
 write_failed (Err (f.Read file)) low is = absurd (omega (arith, is))
 write_failed (Err (f.Refused file refused)) low is = absurd (omega (arith, is))
+write_failed (Err (f.Lint found)) low is = absurd (omega (arith, is))
 write_failed (Err f.NotBuilt) low is = absurd (omega (arith, is))
 write_failed (Err f.Write) low is = refl
 write_failed (Err f.Memory) low is = absurd (omega (arith, is))
@@ -96,6 +86,7 @@ refusal (Ok n) low is Never h = absurd (omega (arith, low, is))
 refusal (Err f.Usage) low is Never h = absurd (omega (arith, is))
 refusal (Err (f.Read file)) low is Never h = absurd (omega (arith, is))
 refusal (Err (f.Refused file refused)) low is Never h = h tt
+refusal (Err (f.Lint found)) low is Never h = h tt
 refusal (Err f.NotBuilt) low is Never h = h tt
 refusal (Err f.Write) low is Never h = absurd (omega (arith, is))
 refusal (Err f.Memory) low is Never h = absurd (omega (arith, is))
@@ -113,6 +104,7 @@ name_map : (fault : TopFault) (P Q : ℕ → Type 0) → ((file : ℕ) → P fil
 name_map f.Usage P Q on h = tt
 name_map (f.Read file) P Q on h = on file h
 name_map (f.Refused file refused) P Q on h = on file h
+name_map (f.Lint found) P Q on h = on found.«module» h
 name_map f.NotBuilt P Q on h = tt
 name_map f.Write P Q on h = tt
 name_map f.Memory P Q on h = tt
@@ -122,6 +114,7 @@ not_done (Ok n) kinds never = absurd (never tt)
 not_done (Err f.Usage) kinds never = absurd kinds
 not_done (Err (f.Read file)) kinds never = (1, omega arith, refl)
 not_done (Err (f.Refused file refused)) kinds never = (0, omega arith, refl)
+not_done (Err (f.Lint found)) kinds never = (0, omega arith, refl)
 not_done (Err f.NotBuilt) kinds never = (0, omega arith, refl)
 not_done (Err f.Write) kinds never = absurd (never tt)
 not_done (Err f.Memory) kinds never = (2, omega arith, refl)
@@ -137,6 +130,7 @@ does (Ok n) kinds status never no_read no_write = low_status n status
 does (Err f.Usage) kinds status never no_read no_write = absurd kinds
 does (Err (f.Read file)) kinds status never no_read no_write = absurd (no_read file refl)
 does (Err (f.Refused file refused)) kinds status never no_read no_write = absurd (never tt)
+does (Err (f.Lint found)) kinds status never no_read no_write = absurd (never tt)
 does (Err f.NotBuilt) kinds status never no_read no_write = absurd (never tt)
 does (Err f.Write) kinds status never no_read no_write = absurd (no_write refl)
 does (Err f.Memory) kinds status never no_read no_write = (2, omega arith, refl)
@@ -180,6 +174,9 @@ module _ (mode : Mode) (told : Told) (files : List (List ℕ)) (outside : Outsid
   pub finish_not_built_only : AreTold told files → fault_of_answer answer ≡ Some f.NotBuilt → HasOtherProgram mode told files
   finish_not_built_only tells is = a.not_built_only (answered_by answer f.NotBuilt is) tells
 
+  pub finish_faulty_only : (fault : LintFault) → AreTold told files → fault_of_answer answer ≡ Some (f.Lint fault) → HasFault told files fault
+  finish_faulty_only fault tells is = a.faulty_only fault (answered_by answer (f.Lint fault) is) tells
+
   pub finish_source_only : (file : ℕ) (kind : RefusalKind) (place : ℕ) → fault_of_answer answer ≡ Some (refused_at file kind place) → IsRefusedWhereTold told files file kind place
   finish_source_only file kind place is = a.source_only file kind place (answered_by answer (refused_at file kind place) is)
 
@@ -210,6 +207,7 @@ module _ (mode : Mode) (told : Told) (files : List (List ℕ)) (outside : Outsid
   finish_complete WriteFails write tells no_read no_write = record {
     does = λ program. does answer a.kinds status (if_refusal answer (HasProgram mode told files) program a.refuses) (never_read no_read) (λ is. no_write (write is));
     not_built = λ other. can_read f.NotBuilt (length files) (fault_of_answer answer) (λ file is. never_read no_read file (answered_by answer (f.Read file) is)) (a.not_built other);
+    faulty = λ fault has. can_read (f.Lint fault) (length files) (fault_of_answer answer) (λ file is. never_read no_read file (answered_by answer (f.Read file) is)) (a.faulty fault has);
     source = λ file kind place first. can_read (refused_at file kind place) (file + 1) (fault_of_answer answer) (λ other is. never_read no_read other (answered_by answer (f.Read other) is)) (a.source file kind place first);
   }
 
@@ -218,6 +216,7 @@ finish_statuses (Ok n) status = small_status n status
 finish_statuses (Err f.Usage) status = (2, omega arith, refl)
 finish_statuses (Err (f.Read file)) status = (4, omega arith, refl)
 finish_statuses (Err (f.Refused file refused)) status = (3, omega arith, refl)
+finish_statuses (Err (f.Lint found)) status = (3, omega arith, refl)
 finish_statuses (Err f.NotBuilt) status = (3, omega arith, refl)
 finish_statuses (Err f.Write) status = (5, omega arith, refl)
 finish_statuses (Err f.Memory) status = (6, omega arith, refl)
@@ -228,6 +227,7 @@ finish_usage_only (Ok n) status is = absurd (omega (arith, status, is))
 finish_usage_only (Err f.Usage) status is = refl
 finish_usage_only (Err (f.Read file)) status is = absurd (omega (arith, is))
 finish_usage_only (Err (f.Refused file refused)) status is = absurd (omega (arith, is))
+finish_usage_only (Err (f.Lint found)) status is = absurd (omega (arith, is))
 finish_usage_only (Err f.NotBuilt) status is = absurd (omega (arith, is))
 finish_usage_only (Err f.Write) status is = absurd (omega (arith, is))
 finish_usage_only (Err f.Memory) status is = absurd (omega (arith, is))
@@ -238,6 +238,7 @@ usage_names (Ok n) count is = tt
 usage_names (Err f.Usage) count is = tt
 usage_names (Err (f.Read file)) count is = absurd is
 usage_names (Err (f.Refused file refused)) count is = absurd is
+usage_names (Err (f.Lint found)) count is = absurd is
 usage_names (Err f.NotBuilt) count is = tt
 usage_names (Err f.Write) count is = tt
 usage_names (Err f.Memory) count is = tt

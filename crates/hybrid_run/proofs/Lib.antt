@@ -4,6 +4,7 @@ pub mod CommandReading
 pub mod Doing
 pub mod Evaluating
 pub mod Finishing
+pub mod Linting
 pub mod Lists
 pub mod Loaded
 pub mod Modules

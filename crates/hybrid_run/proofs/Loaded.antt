@@ -68,6 +68,22 @@ pass told [] zs h = tt
 pass told (file ∷ files) [] h = absurd h
 pass told (file ∷ files) (z ∷ zs) h = ((z, h.0), pass told files zs h.1)
 
+-- what holds of each item holds of each of the first ones
+first_items : {A : Type 0} (P : A → Type 0) (xs : List A) (count : ℕ) → AllByRecursion P xs → AllByRecursion P (take count xs)
+first_items P xs zero h = tt
+first_items P [] (suc count) h = tt
+first_items P (x ∷ xs) (suc count) h = (h.0, first_items P xs count h.1)
+
+pub passes_before : (told : Told) (files : List (List ℕ)) (zs : List Module) (place : ℕ) → AreReadWhereTold told files zs → PassBefore told files place
+passes_before told files zs place h = first_items (λ file. (z : Module) × IsReadWhereTold told file z) files place (pass told files zs h)
+
+-- there is one tree for each file
+pub same_count : (told : Told) (files : List (List ℕ)) (zs : List Module) → AreReadWhereTold told files zs → length zs ≡ length files
+same_count told [] [] h = refl
+same_count told [] (z ∷ zs) h = absurd h
+same_count told (file ∷ files) [] h = absurd h
+same_count told (file ∷ files) (z ∷ zs) h = ap suc (same_count told files zs h.1)
+
 pub all_read : (told : Told) (files : List (List ℕ)) (zs : List Module) → AreTold told files → AreReadWhereTold told files zs → AreRead told files zs
 all_read told [] [] tells h = tt
 all_read told [] (z ∷ zs) tells h = absurd h
@@ -156,6 +172,7 @@ pub behind_at : (told : Told) (files : List (List ℕ)) (place : ℕ) (zs : List
 behind_at told files place zs f.Usage kinds low read = tt
 behind_at told files place zs (f.Read file) kinds low read = behind_place told files place zs file kinds low read
 behind_at told files place zs (f.Refused file refused) kinds low read = behind_place told files place zs file kinds low read
+behind_at told files place zs (f.Lint found) kinds low read = absurd kinds
 behind_at told files place zs f.NotBuilt kinds low read = tt
 behind_at told files place zs f.Write kinds low read = tt
 behind_at told files place zs f.Memory kinds low read = tt

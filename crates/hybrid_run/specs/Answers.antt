@@ -1,9 +1,10 @@
 -- What is answered to the command of the words.
 use Rattle.std.specs.Prelude.{◌≡◌, ℕ, ◌+◌, ◌<◌, List, length, slice_get, Option, Some, Result, Err, IfOk, IfErr, IsErrOf}
+use Rattle.hy_core.specs.declared.fault.LintFault.{LintFault}
 use Rattle.hy_core.specs.declared.refusal.RefusalKind.{RefusalKind}
 use Rattle.hy_core.specs.declared.tree.Module.{Module}
 use Rattle.hybrid_run.specs.Faults.{FailsWith, HasWritten, IfNamesFile, IsOfCommand, IsRefusal, fault_of_answer, refused_at}
-use Rattle.hybrid_run.specs.Headline.{Done, Cut, HasProgram, HasOtherProgram}
+use Rattle.hybrid_run.specs.Headline.{Done, Cut, HasProgram, HasOtherProgram, HasFault}
 use Rattle.hybrid_run.specs.Loading.{Told, AreTold, AreRead, PassBefore, IsRefusedWhereTold, IsFirstRefused}
 use Rattle.hybrid_run.specs.declared.command.Mode.{Mode}
 use Rattle.hybrid_run.specs.declared.fault.TopFault.{TopFault}
@@ -28,6 +29,8 @@ pub record Answers (mode : Mode) (told : Told) (files : List (List ℕ)) (outsid
   pub refuses : IfErr answer (λ fault. IsRefusal fault → HasProgram mode told files → ⊥)
   pub not_built : HasOtherProgram mode told files → FailsWith f.NotBuilt (length files) (fault_of_answer answer)
   pub not_built_only : IsErrOf answer f.NotBuilt → AreTold told files → HasOtherProgram mode told files
+  pub faulty : (fault : LintFault) → HasFault told files fault → FailsWith (f.Lint fault) (length files) (fault_of_answer answer)
+  pub faulty_only : (fault : LintFault) → IsErrOf answer (f.Lint fault) → AreTold told files → HasFault told files fault
   pub source : (file : ℕ) (kind : RefusalKind) (place : ℕ) → IsFirstRefused told files file kind place → FailsWith (refused_at file kind place) (file + 1) (fault_of_answer answer)
   pub source_only : (file : ℕ) (kind : RefusalKind) (place : ℕ) → IsErrOf answer (refused_at file kind place) → IsRefusedWhereTold told files file kind place
   pub behind : IfErr answer (λ fault. IfNamesFile fault (λ file. (file < length files) × PassBefore told files file))

@@ -4,13 +4,17 @@ use Rattle.hy_core.specs.Built.{IsBuiltModule}
 use Rattle.hy_core.specs.BuiltIn.{own_atoms}
 use Rattle.hy_core.specs.FullRun.{NeverStopped, IsFullRun}
 use Rattle.hy_core.specs.Canonical.{canonical_text, one_after_another}
+use Rattle.hy_core.specs.Faults.{IsAccepted, IsLeastFault}
+use Rattle.hy_core.specs.PreludeModules.{prelude_modules}
 use Rattle.hy_core.specs.Resolve.{Names, function_trees}
 use Rattle.hy_core.specs.Resolved.{FunctionTree}
 use Rattle.hy_core.specs.declared.end.End.{End}
 use Rattle.hy_core.specs.declared.end.End.TheVariants.{Ended, Raised, Waits, Stopped}
+use Rattle.hy_core.specs.declared.fault.LintFault.{LintFault}
 use Rattle.hy_core.specs.declared.refusal.RefusalKind.{RefusalKind}
 use Rattle.hy_core.specs.declared.step.Step.{Step}
 use Rattle.hy_core.specs.declared.tree.Module.{Module}
+use Rattle.hy_core.specs.declared.tree.Program.{Program}
 use Rattle.hybrid_run.specs.Arithmetic.{end_of, output_of}
 use Rattle.hybrid_run.specs.Faults.{refused_at}
 use Rattle.hybrid_run.specs.Loading.{Told, AreRead, IsFirstRefused}
@@ -76,23 +80,32 @@ pub record Cut (mode : Mode) (zs : List Module) (before now : Option (List ℕ))
   pub writes : Writes mode zs output status
   pub written : AppendsPrefix before now output
 
--- the files have modules for which the mode is built
-abbrev pub HasProgram : Mode → Told → List (List ℕ) → Type 0
-HasProgram mode told files = (zs : List Module) × AreRead told files zs × IsBuiltFor mode zs
+-- the program of these modules, with those that each program has
+abbrev pub with_prelude : List Module → Program
+with_prelude zs = record { given = zs; prelude = prelude_modules }
 
--- the files have modules, and the mode isn't built for them
+-- the files have modules, whose program is accepted and for which the mode is built
+abbrev pub HasProgram : Mode → Told → List (List ℕ) → Type 0
+HasProgram mode told files = (zs : List Module) × AreRead told files zs × IsAccepted (with_prelude zs) × IsBuiltFor mode zs
+
+-- the files have modules, whose program is accepted, and the mode isn't built for them
 abbrev pub HasOtherProgram : Mode → Told → List (List ℕ) → Type 0
-HasOtherProgram mode told files = (zs : List Module) × AreRead told files zs × (IsBuiltFor mode zs → ⊥)
+HasOtherProgram mode told files = (zs : List Module) × AreRead told files zs × IsAccepted (with_prelude zs) × (IsBuiltFor mode zs → ⊥)
+
+-- the files have modules, and this is the least fault of their program
+abbrev pub HasFault : Told → List (List ℕ) → LintFault → Type 0
+HasFault told files fault = (zs : List Module) × AreRead told files zs × IsLeastFault (with_prelude zs) fault
 
 -- all is written: the first process ended or raised, or mode `check` came to its end
 abbrev pub IsDoneStatus : ℕ → Type 0
 IsDoneStatus status = status < 2
 
 -- What is answered for files whose texts are told, where nothing outside fails: the mode comes to its end where it is built for their modules, and isn't built for
--- others; the first text that is no module is refused; or memory runs out.
+-- others that are accepted; the least fault of their program is told; the first text that is no module is refused; or memory runs out.
 pub record IsAnswered (mode : Mode) (told : Told) (files : List (List ℕ)) (status : ℕ) (refused : Option TopFault) : Type 0 where
   pub does : HasProgram mode told files → Contains (0 ∷ 1 ∷ 8 ∷ []) status
   pub not_built : HasOtherProgram mode told files → Contains (Some f.NotBuilt ∷ Some f.Memory ∷ []) refused
+  pub faulty : (fault : LintFault) → HasFault told files fault → Contains (Some (f.Lint fault) ∷ Some f.Memory ∷ []) refused
   pub source : (file : ℕ) (kind : RefusalKind) (place : ℕ) → IsFirstRefused told files file kind place → Contains (Some (refused_at file kind place) ∷ Some f.Memory ∷ []) refused
 
 -- usage, a text without a run and a read fault, with which nothing is written

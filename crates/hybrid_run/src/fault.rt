@@ -1,12 +1,12 @@
 ghost use Rattle.std.specs.Prelude.{◌≡◌, ◌++◌, length, IfOk, OnOk};
-ghost use Rattle.hybrid_run.specs.Faults.{text_of_fault, read_fault_text, refusal_text, kind_name, status_of_fault, IsOfFiles};
+ghost use Rattle.hybrid_run.specs.Faults.{text_of_fault, read_fault_text, refusal_text, lint_text, kind_name, form_name, status_of_fault, IsOfFiles};
 
 use core_reader::Refused;
-use hy_core::RefusalKind;
+use hy_core::{Form, LintFault, RefusalKind};
 use hy_terms::{Memory, Words};
 use std::alloc::{AllocFailed, Global};
 
-/// Why the program answers no run. A file is a place among the file words.
+/// Why the program doesn't do what its words ask for. A file is a place among the file words.
 #[derive(Clone, Copy, Debug, PartialEq, Eq)]
 pub enum TopFault {
     /// The words aren't those of the command line.
@@ -15,7 +15,10 @@ pub enum TopFault {
     Read { file: u32 },
     /// A file's text is no module.
     Refused { file: u32, refused: Refused },
-    /// A module is outside what the program runs so far.
+    /// This fault holds in the program of the files, and none before it. Its module is the file at
+    /// that place.
+    Lint(LintFault),
+    /// The program of the files has no fault, and is outside what is run so far.
     NotBuilt,
     /// Standard output failed.
     Write,
@@ -32,6 +35,7 @@ pub fn status_of(fault: &TopFault) -> u8
             file: _,
             refused: _,
         } => 3,
+        TopFault::Lint(_) => 3,
         TopFault::NotBuilt => 3,
         TopFault::Read { file: _ } => 6,
         TopFault::Write => 7,
@@ -73,6 +77,7 @@ pub fn fault_text(alloc: Global, fault: &TopFault, files: &Words) -> Result<Vec<
         TopFault::Refused { file, refused } => {
             push_refusal(&mut text, files.word(*file as u64), *refused)?
         }
+        TopFault::Lint(found) => push_lint(&mut text, files.word(found.module as u64), *found)?,
         TopFault::NotBuilt => text.extend_from_slice(b"hyb: not built\n")?,
         TopFault::Write => text.extend_from_slice(b"hyb: write failed\n")?,
         TopFault::Memory => text.extend_from_slice(b"hyb: out of memory\n")?,
@@ -102,6 +107,21 @@ fn push_refusal(text: &mut Vec<u8>, name: &str, refused: Refused) -> Result<(), 
     Ok(())
 }
 
+fn push_lint(text: &mut Vec<u8>, name: &str, fault: LintFault) -> Result<(), Memory>
+    ensures { OnOk result (text.new.items ≡ text.old.items ++ lint_text name.now fault) }
+{
+    let line = format!(in *text.allocator();
+        "hyb: {}: fault {} function {} node {} {}\n",
+        name,
+        fault.kind,
+        fault.function,
+        fault.node,
+        name_of_form(fault.form)
+    )?;
+    text.extend_from_slice(line.as_bytes())?;
+    Ok(())
+}
+
 fn name_of(kind: RefusalKind) -> &'static str
     ensures { result.now ≡ kind_name kind }
 {
@@ -112,5 +132,26 @@ fn name_of(kind: RefusalKind) -> &'static str
         RefusalKind::NumberRange => "NumberRange",
         RefusalKind::TooDeep => "TooDeep",
         RefusalKind::TooLong => "TooLong",
+    }
+}
+
+fn name_of_form(form: Form) -> &'static str
+    ensures { result.now ≡ form_name form }
+{
+    match form {
+        Form::Absent => "none",
+        Form::Fun => "fun",
+        Form::Name => "name",
+        Form::Apply => "apply",
+        Form::Call => "call",
+        Form::Try => "try",
+        Form::Catch => "catch",
+        Form::Primop => "primop",
+        Form::Timeout => "timeout",
+        Form::Spawn => "spawn",
+        Form::Functions => "functions",
+        Form::Arity => "arity",
+        Form::Sites => "sites",
+        Form::Atoms => "atoms",
     }
 }

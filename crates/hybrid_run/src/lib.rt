@@ -6,6 +6,9 @@ mod check;
 mod command;
 mod evaluate;
 mod fault;
+mod lint;
+#[cfg(test)]
+mod lint_tests;
 mod load;
 mod output;
 mod run;

@@ -1,20 +1,26 @@
 //! The rows of the program over sources and a sink in memory.
 
 use crate::{Finish, Refused, TopFault, fault_text, files, hybrid};
-use hy_core::RefusalKind;
+use hy_core::{Form, LintFault, RefusalKind};
 use hy_terms::Words;
 use outside::{MemorySink, MemorySources, OpenGate};
 use std::alloc::AllocGlobal;
+use std::process::Abort;
 use std::test::Fail;
 use std::thread::Threads;
 
-const ROOM: u64 = 1 << 12;
+pub const ROOM: u64 = 1 << 13;
 
 const HEAD: &[u8] = b"module 'm' ['main'/0] attributes [] 'main'/0 = fun () -> ";
 
-/// The text of a module whose function is this expression.
-fn module_of<R: AllocGlobal>(rt: &R, body: &[u8]) -> Result<Vec<u8>, Fail> {
-    let mut text = Vec::from_slice(rt.alloc(), HEAD)?;
+/// The text of a module whose function is this expression; further functions may follow it.
+pub fn module_of<R: AllocGlobal>(rt: &R, body: &[u8]) -> Result<Vec<u8>, Fail> {
+    text_of(rt, HEAD, body)
+}
+
+/// The text of a module that begins so, up to the body of its first function.
+pub fn text_of<R: AllocGlobal>(rt: &R, head: &[u8], body: &[u8]) -> Result<Vec<u8>, Fail> {
+    let mut text = Vec::from_slice(rt.alloc(), head)?;
     text.extend_from_slice(body)?;
     text.extend_from_slice(b" end\n")?;
     Ok(text)
@@ -46,7 +52,7 @@ fn wide_sink<R: AllocGlobal>(rt: &R) -> Result<MemorySink, Fail> {
 }
 
 /// Runs the file of this text, with a sink that fails at these calls.
-fn run_file<R: Threads + AllocGlobal>(
+pub fn run_file<R: Threads + AllocGlobal>(
     rt: &R,
     text: &[u8],
     room: u64,
@@ -62,14 +68,14 @@ fn run_file<R: Threads + AllocGlobal>(
     )
 }
 
-fn ended(status: u8) -> Finish {
+pub fn ended(status: u8) -> Finish {
     Finish {
         status,
         refused: None,
     }
 }
 
-fn refused(status: u8, fault: TopFault) -> Finish {
+pub fn refused(status: u8, fault: TopFault) -> Finish {
     Finish {
         status,
         refused: Some(fault),
@@ -86,6 +92,32 @@ fn refused_at(kind: RefusalKind, place: u64) -> Finish {
             refused: refused_text,
         },
     )
+}
+
+/// The fault of this kind at this place.
+pub fn lint_at(kind: u8, module: u32, function: u32, node: u32, form: Form) -> Finish {
+    let fault = LintFault {
+        kind,
+        module,
+        function,
+        node,
+        form,
+    };
+    refused(3, TopFault::Lint(fault))
+}
+
+/// Runs these words with files of these names and texts, and compares the end and what was written.
+pub fn expect<R: Threads + AllocGlobal + Abort>(
+    rt: &R,
+    files: &[(&str, &[u8])],
+    words: &[&str],
+    finish: Finish,
+    written: &[u8],
+) -> Result<(), Fail> {
+    let told = run_words(rt, words, files, Vec::new(rt.alloc()), wide_sink(rt)?)?;
+    assert_eq!(rt; told.0, finish);
+    assert_eq!(rt; told.1.bytes(), written);
+    Ok(())
 }
 
 #[test]
@@ -165,38 +197,36 @@ fn refuses_what_is_no_module(rt: HostRuntime) -> Result<(), Fail> {
 
 #[test]
 fn builds_the_arithmetic_part_alone(rt: HostRuntime) -> Result<(), Fail> {
-    let unbound = module_of(&rt, b"X")?;
-    let pair = module_of(&rt, b"{1,2}")?;
-    let product = module_of(&rt, b"call 'erlang':'*'(2,3)")?;
-    let texts: [&[u8]; 6] = [
-        unbound.as_slice(),
-        pair.as_slice(),
-        product.as_slice(),
-        b"module 'm' ['main'/0] attributes [] 'main'/0 = fun () -> 7 'f'/0 = fun () -> 7 end",
-        b"module 'm' ['main'/0,'f'/0] attributes [] 'main'/0 = fun () -> 7 end",
-        b"module 'm' [] attributes [] 'main'/0 = fun () -> 7 end",
+    let bodies: [&[u8]; 3] = [
+        b"{1,2}",
+        b"call 'erlang':'*'(2,3)",
+        b"7 'f'/0 = fun () -> 7",
     ];
-    for text in texts.as_slice() {
-        let told = run_file(&rt, text, ROOM, Vec::new(rt.alloc()))?;
+    for body in bodies.as_slice() {
+        let text = module_of(&rt, body)?;
+        let told = run_file(&rt, text.as_slice(), ROOM, Vec::new(rt.alloc()))?;
         assert_eq!(rt; told.0, refused(3, TopFault::NotBuilt));
         assert_eq!(rt; told.1.bytes(), b"".as_slice());
     }
     Ok(())
 }
 
-/// The files of the tests on words: two modules, and a text that is none.
+/// The files of the tests on words: two modules that are accepted, alone and together, and a text that is no module.
 const FILES: [(&str, &[u8]); 3] = [
     (
         "m.core",
         b"module 'm' ['main'/0] attributes [] 'main'/0 = fun () -> 7 end",
     ),
-    ("-", b"module 'dash' [] attributes ['x' = 1] end"),
+    (
+        "-",
+        b"module 'dash' ['main'/0] attributes ['x' = 1] 'main'/0 = fun () -> 8 end",
+    ),
     ("open.core", b"module 'm"),
 ];
 
 const M: &[u8] = b"module 'm' [ 'main' / 0 ] attributes [ ] 'main' / 0 = fun ( ) -> 7 end\n";
 
-const DASH: &[u8] = b"module 'dash' [ ] attributes [ ] end\n";
+const DASH: &[u8] = b"module 'dash' [ 'main' / 0 ] attributes [ ] 'main' / 0 = fun ( ) -> 8 end\n";
 
 #[test]
 fn takes_the_words_of_a_command_line(rt: HostRuntime) -> Result<(), Fail> {
@@ -244,47 +274,55 @@ fn takes_the_words_of_a_command_line(rt: HostRuntime) -> Result<(), Fail> {
     Ok(())
 }
 
+/// The text of a small module of this name.
+fn module_named<R: AllocGlobal>(rt: &R, name: &str) -> Result<String, Fail> {
+    Ok(format!(in rt.alloc();
+        "module '{}' ['main'/0] attributes [] 'main'/0 = fun () -> 7 end",
+        name
+    )?)
+}
+
 #[test]
 fn takes_up_to_64_files(rt: HostRuntime) -> Result<(), Fail> {
-    let mut words: Vec<&str> = vec![in rt.alloc(); "--mode", "check"]?;
-    for _ in 0..64 {
-        words.push("-")?;
+    let mut words = Words::new(rt.alloc());
+    words.push("--mode=check")?;
+    let mut sources = MemorySources::new(rt.alloc(), Vec::new(rt.alloc()));
+    for place in 0..64_u32 {
+        let name = format!(in rt.alloc(); "{}", place)?;
+        let text = module_named(&rt, name.as_str())?;
+        words.push(name.as_str())?;
+        sources.add(name.as_str(), text.as_bytes())?;
     }
-    let told = run_words(
-        &rt,
-        words.as_slice(),
-        FILES.as_slice(),
-        Vec::new(rt.alloc()),
-        wide_sink(&rt)?,
-    )?;
-    assert_eq!(rt; told.0, ended(0));
-    assert_eq!(rt; told.1.bytes().len(), 64 * DASH.len());
-    words.push("-")?;
-    let told = run_words(
-        &rt,
-        words.as_slice(),
-        FILES.as_slice(),
-        Vec::new(rt.alloc()),
-        wide_sink(&rt)?,
-    )?;
-    assert_eq!(rt; told.0, refused(2, TopFault::Usage));
+    let mut sink = wide_sink(&rt)?;
+    let finish = hybrid(&rt, rt.alloc(), &words, &mut sources, &mut sink, &OpenGate);
+    assert_eq!(rt; finish, ended(0));
+    // Ten of the names have one byte, as that of M has, and the others have two.
+    assert_eq!(rt; sink.bytes().len(), 64 * M.len() + 54);
+    words.push("64")?;
+    let finish = hybrid(&rt, rt.alloc(), &words, &mut sources, &mut sink, &OpenGate);
+    assert_eq!(rt; finish, refused(2, TopFault::Usage));
     Ok(())
 }
 
 #[test]
 fn prints_each_file_in_order(rt: HostRuntime) -> Result<(), Fail> {
-    let both = run_words(
-        &rt,
-        &["-", "--mode", "check", "m.core", "-"],
-        FILES.as_slice(),
-        Vec::new(rt.alloc()),
-        wide_sink(&rt)?,
-    )?;
     let mut texts = Vec::from_slice(rt.alloc(), DASH)?;
     texts.extend_from_slice(M)?;
-    texts.extend_from_slice(DASH)?;
-    assert_eq!(rt; both.0, ended(0));
-    assert_eq!(rt; both.1.bytes(), texts.as_slice());
+    let files = FILES.as_slice();
+    expect(
+        &rt,
+        files,
+        &["-", "--mode", "check", "m.core"],
+        ended(0),
+        texts.as_slice(),
+    )?;
+    expect(
+        &rt,
+        files,
+        &["-", "--mode", "check", "m.core", "-"],
+        lint_at(1, 2, 0, 0, Form::Absent),
+        b"",
+    )?;
     let sink = MemorySink::new(rt.alloc(), ROOM, Vec::from_slice(rt.alloc(), &[2])?)?;
     let cut = run_words(
         &rt,
@@ -541,5 +579,94 @@ fn says_what_is_wrong_and_where(rt: HostRuntime) -> Result<(), Fail> {
         let text = fault_text(rt.alloc(), &TopFault::Refused { file: 0, refused }, &files)?;
         assert_eq!(rt; text.as_slice(), row.2);
     }
+    Ok(())
+}
+
+#[test]
+fn says_which_fault_holds(rt: HostRuntime) -> Result<(), Fail> {
+    let mut files = Words::new(rt.alloc());
+    files.push("m.core")?;
+    files.push("n.core")?;
+    let rows: [(Form, &[u8]); 14] = [
+        (
+            Form::Absent,
+            b"hyb: n.core: fault 10 function 4294967295 node 0 none\n",
+        ),
+        (
+            Form::Fun,
+            b"hyb: n.core: fault 10 function 4294967295 node 0 fun\n",
+        ),
+        (
+            Form::Name,
+            b"hyb: n.core: fault 10 function 4294967295 node 0 name\n",
+        ),
+        (
+            Form::Apply,
+            b"hyb: n.core: fault 10 function 4294967295 node 0 apply\n",
+        ),
+        (
+            Form::Call,
+            b"hyb: n.core: fault 10 function 4294967295 node 0 call\n",
+        ),
+        (
+            Form::Try,
+            b"hyb: n.core: fault 10 function 4294967295 node 0 try\n",
+        ),
+        (
+            Form::Catch,
+            b"hyb: n.core: fault 10 function 4294967295 node 0 catch\n",
+        ),
+        (
+            Form::Primop,
+            b"hyb: n.core: fault 10 function 4294967295 node 0 primop\n",
+        ),
+        (
+            Form::Timeout,
+            b"hyb: n.core: fault 10 function 4294967295 node 0 timeout\n",
+        ),
+        (
+            Form::Spawn,
+            b"hyb: n.core: fault 10 function 4294967295 node 0 spawn\n",
+        ),
+        (
+            Form::Functions,
+            b"hyb: n.core: fault 10 function 4294967295 node 0 functions\n",
+        ),
+        (
+            Form::Arity,
+            b"hyb: n.core: fault 10 function 4294967295 node 0 arity\n",
+        ),
+        (
+            Form::Sites,
+            b"hyb: n.core: fault 10 function 4294967295 node 0 sites\n",
+        ),
+        (
+            Form::Atoms,
+            b"hyb: n.core: fault 10 function 4294967295 node 0 atoms\n",
+        ),
+    ];
+    for row in rows.as_slice() {
+        let fault = LintFault {
+            kind: 10,
+            module: 1,
+            function: u32::MAX,
+            node: 0,
+            form: row.0,
+        };
+        let text = fault_text(rt.alloc(), &TopFault::Lint(fault), &files)?;
+        assert_eq!(rt; text.as_slice(), row.1);
+    }
+    let first = LintFault {
+        kind: 4,
+        module: 0,
+        function: 2,
+        node: 31,
+        form: Form::Absent,
+    };
+    let text = fault_text(rt.alloc(), &TopFault::Lint(first), &files)?;
+    assert_eq!(rt;
+        text.as_slice(),
+        b"hyb: m.core: fault 4 function 2 node 31 none\n".as_slice()
+    );
     Ok(())
 }

@@ -1,16 +1,18 @@
 ghost use Rattle.std.specs.Prelude.{◌≡◌, ◌+◌, ◌≤◌, ℕ, List, [], ◌∷◌, length, slice_get, Contains, IfSome, Some, MatchOption, IfOk, IfErr, IsErrOf};
+ghost use Rattle.hy_core.specs.declared.fault.LintFault.{LintFault};
 ghost use Rattle.hy_core.specs.declared.refusal.RefusalKind.{RefusalKind};
 ghost use Rattle.hy_core.specs.declared.tree.Module.{Module};
 ghost use Rattle.hybrid_run.specs.Answers.{Answers, IsUsageAnswer, outside_of};
 ghost use Rattle.hybrid_run.specs.CommandLine.{IsCommand, IsUsage, NameFiles, most_files};
 ghost use Rattle.hybrid_run.specs.Faults.{FailsWith, IfNamesFile, IsOfFiles, IsSilent, fault_of_answer, refused_at, status_of_answer, status_of_fault};
-ghost use Rattle.hybrid_run.specs.Headline.{Cut, Done, HasOtherProgram, HasProgram, IsAnswered, IsDoneStatus, IsSilentStatus};
+ghost use Rattle.hybrid_run.specs.Headline.{Cut, Done, HasFault, HasOtherProgram, HasProgram, IsAnswered, IsDoneStatus, IsSilentStatus};
 ghost use Rattle.hybrid_run.specs.Loading.{AreRead, AreTold, IsFirstRefused, IsRefusedWhereTold, PassBefore};
 ghost use Rattle.hybrid_run.specs.declared.command.Mode.{Mode};
 ghost use Rattle.outside.specs.Outside.{Rises};
 
 use crate::command::{Command, read_command};
 use crate::fault::{TopFault, status_of};
+use crate::lint::accepted_program;
 use crate::load::load_all;
 use crate::run::run_mode;
 use hy_terms::Words;
@@ -18,7 +20,7 @@ use outside::{Gate, Sink, Sources};
 use std::alloc::Global;
 use std::thread::Threads;
 
-/// How the program ends: its status, and why where it answers no run.
+/// How the program ends: its status, and why where it doesn't do what its words ask for.
 #[derive(Clone, Copy, Debug, PartialEq, Eq)]
 pub struct Finish {
     pub status: u8,
@@ -26,11 +28,12 @@ pub struct Finish {
 }
 
 /// Does all that the program does with the words of its command line: it reads the texts of the files,
-/// in order, and then runs the program of their modules, or writes the canonical text of each.
+/// in order, looks for a fault in the program of their modules, and then runs this program, or writes
+/// the canonical text of each module. A program in which a fault holds is refused in both modes.
 ///
 /// The status is 0 where the process ended or all texts are written, 1 where the process raised, 2
-/// where the words are usage, 3 where a text is no module or the program isn't built, 6 and 7 where a
-/// source or the sink failed, and 8 for want of memory.
+/// where the words are usage, 3 where a text is no module, a fault holds in the program or the mode
+/// isn't built for it, 6 and 7 where a source or the sink failed, and 8 for want of memory.
 pub fn hybrid<R: Threads, S: Sources, K: Sink, G: Gate>(
     rt: &R,
     alloc: Global,
@@ -51,13 +54,19 @@ pub fn hybrid<R: Threads, S: Sources, K: Sink, G: Gate>(
     ensures cut { (mode : Mode) (files : List (List ℕ)) (zs : List Module) → IsCommand words.now mode files → AreRead (S.told sources.old) files zs →
         result.status ≡ 7 → Cut mode zs (K.written sink.old) (K.written sink.new) }
 
-    // Where a text is no module or the mode isn't built for the modules nothing is done, and status 3 comes for no other files.
+    // Where a text is no module, a fault holds or the mode isn't built for the modules nothing is done, and status 3 comes for no other files.
     ensures refuses { (mode : Mode) (files : List (List ℕ)) → IsCommand words.now mode files → AreTold (S.told sources.old) files →
         (HasProgram mode (S.told sources.old) files → ⊥) → Contains (3 ∷ 6 ∷ 8 ∷ []) result.status }
     ensures refuses_only { (mode : Mode) (files : List (List ℕ)) → IsCommand words.now mode files →
         result.status ≡ 3 → HasProgram mode (S.told sources.old) files → ⊥ }
 
-    // Modules for which the mode isn't built are so answered, or a file can't be read, or memory runs out; and no others are.
+    // The least fault that holds in the program of the files is answered, or a file can't be read, or memory runs out; and no other fault is.
+    ensures faulty { (mode : Mode) (files : List (List ℕ)) (fault : LintFault) → IsCommand words.now mode files → HasFault (S.told sources.old) files fault →
+        FailsWith (TopFault.Lint fault) (length files) result.refused }
+    ensures faulty_only { (mode : Mode) (files : List (List ℕ)) (fault : LintFault) → IsCommand words.now mode files → AreTold (S.told sources.old) files →
+        result.refused ≡ Some (TopFault.Lint fault) → HasFault (S.told sources.old) files fault }
+
+    // Accepted modules for which the mode isn't built are so answered, or a file can't be read, or memory runs out; and no others are.
     ensures not_built { (mode : Mode) (files : List (List ℕ)) → IsCommand words.now mode files → HasOtherProgram mode (S.told sources.old) files →
         FailsWith TopFault.NotBuilt (length files) result.refused }
     ensures not_built_only { (mode : Mode) (files : List (List ℕ)) → IsCommand words.now mode files → AreTold (S.told sources.old) files →
@@ -135,7 +144,8 @@ fn run_command<S: Sources, K: Sink, G: Gate>(
     sink: &mut K,
     gate: &G,
 ) -> Result<u8, TopFault>
-    requires { length command.now.files ≤ most_files }
+    requires some { 1 ≤ length command.now.files }
+    requires few { length command.now.files ≤ most_files }
     ensures answers { Answers command.now.mode (S.told sources.old) command.now.files
         (outside_of (K.written sink.old) (K.written sink.new) (S.faults sources.old) (S.faults sources.new)) result }
     ensures write { IsErrOf result TopFault.Write → Rises (K.faults sink.old) (K.faults sink.new) }
@@ -143,5 +153,6 @@ fn run_command<S: Sources, K: Sink, G: Gate>(
     ensures status { IfOk result IsDoneStatus }
 {
     let modules = load_all(alloc, &command.files, sources)?;
-    run_mode(alloc, command.mode, modules.as_slice(), sink, gate)
+    let program = accepted_program(alloc, modules)?;
+    run_mode(alloc, command.mode, program.given.as_slice(), sink, gate)
 }

@@ -19,8 +19,11 @@ pub returns-in_err-command-clause-usage_only : goal.returns-in_err-command-claus
 returns-in_err-command-clause-usage_only g c = λ is.
     unread_only c.args.words.now c.in_err-command.field-0.0 c.in_err-command.ensures (ap (λ (fault : TopFault). Err fault) (same_fault c.from_residual.result c.in_err-command.field-0.0 f.Usage c.from_residual.ensures.1 is))
 
-pub run_command-requires-after_bounds : goal.run_command-requires-after_bounds
-run_command-requires-after_bounds g c = λ _ _. (is_command c.args.words.now c.in_ok-command.command.mode c.in_ok-command.command.files c.in_ok-command.ensures).few
+pub run_command-requires-clause-some : goal.run_command-requires-clause-some
+run_command-requires-clause-some g c = λ _ _. (is_command c.args.words.now c.in_ok-command.command.mode c.in_ok-command.command.files c.in_ok-command.ensures).some
+
+pub run_command-requires-clause-few : goal.run_command-requires-clause-few
+run_command-requires-clause-few g c = λ _ _. (is_command c.args.words.now c.in_ok-command.command.mode c.in_ok-command.command.files c.in_ok-command.ensures).few
 
 pub returns-clause-answers : goal.returns-clause-answers
 returns-clause-answers g c =

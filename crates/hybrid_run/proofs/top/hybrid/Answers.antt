@@ -7,7 +7,7 @@ use Rattle.hybrid_run.specs.Loading.{PassBefore}
 use Rattle.hybrid_run.specs.declared.fault.TopFault.{TopFault}
 use Rattle.hybrid_run.specs.declared.fault.TopFault.TheVariants as f
 use Rattle.outside.specs.Outside.{Rises}
-use Rattle.hybrid_run.proofs.Finishing.{finish_done, finish_accepted, finish_cut, finish_refuses, finish_refuses_only, finish_not_built_only, finish_source_only, finish_before, finish_names, finish_read, finish_complete, finish_statuses, finish_usage_only, names_file}
+use Rattle.hybrid_run.proofs.Finishing.{finish_done, finish_accepted, finish_cut, finish_refuses, finish_refuses_only, finish_not_built_only, finish_faulty_only, finish_source_only, finish_before, finish_names, finish_read, finish_complete, finish_statuses, finish_usage_only, names_file}
 use Rattle.hybrid_run.proofs.top.hybrid.Goals as goal
 
 pub returns-clause-usage_only : goal.returns-clause-usage_only
@@ -82,6 +82,21 @@ returns-clause-not_built_only g c = λ mode files is tells refused.
     let outside = outside_of before now old new in
     let r = c.answer.result in
     finish_not_built_only mode told files outside r (c.answer.ensures.answers mode files is) c.answer.ensures.status tells (sym c.finish_of.ensures.refused ∙ refused)
+
+pub returns-clause-faulty : goal.returns-clause-faulty
+returns-clause-faulty g c = λ mode files fault is has.
+    subst (λ (refused : Option TopFault). FailsWith (f.Lint fault) (length files) refused) (sym c.finish_of.ensures.refused) ((c.answer.ensures.answers mode files is).faulty fault has)
+
+pub returns-clause-faulty_only : goal.returns-clause-faulty_only
+returns-clause-faulty_only g c = λ mode files fault is tells refused.
+    let told = g.S.Sources.told c.args.sources.now in
+    let before = g.K.Sink.written c.args.sink.now in
+    let now = g.K.Sink.written c.answer.new.sink in
+    let old = g.S.Sources.faults c.args.sources.now in
+    let new = g.S.Sources.faults c.answer.new.sources in
+    let outside = outside_of before now old new in
+    let r = c.answer.result in
+    finish_faulty_only mode told files outside r (c.answer.ensures.answers mode files is) c.answer.ensures.status fault tells (sym c.finish_of.ensures.refused ∙ refused)
 
 pub returns-clause-source : goal.returns-clause-source
 returns-clause-source g c = λ mode files file kind place is first.
