@@ -4,8 +4,8 @@ use Rattle.hy_core.specs.Faults.{IsUpTo, lower, same, form_place, order_of}
 use Rattle.hy_core.specs.declared.fault.Form.TheVariants.{Absent}
 use Rattle.hy_core.specs.declared.fault.LintFault.{LintFault}
 use Rattle.core_lint.specs.Earlier.{earlier, is_before}
-use Rattle.core_lint.specs.First.{IsFirst}
-use Rattle.core_lint.proofs.FirstLemmas.{upto_same, upto_trans}
+use Rattle.core_walk.specs.First.{IsFirst}
+use Rattle.core_walk.proofs.FirstLemmas.{upto_same, upto_trans}
 
 -- one number after another: below, the same with what follows, or above
 by_number : (x y : ℕ) (rest : Bool) (xs ys : List ℕ) → (nat_lt x y || ((x == y) && rest)) ≡ true → (rest ≡ true → IsUpTo xs ys) → IsUpTo (x ∷ xs) (y ∷ ys)

@@ -10,9 +10,9 @@ use Rattle.hy_core.specs.declared.fault.LintFault.{LintFault}
 use Rattle.hy_core.specs.declared.tree.Function.{Function}
 use Rattle.hy_core.specs.declared.tree.Module.{Module}
 use Rattle.hy_core.specs.declared.tree.Program.{Program}
-use Rattle.core_lint.specs.First.{IsFaultOf, IsFirst, IsShown, by_function, by_node, first_in_modules}
-use Rattle.core_lint.specs.Walk.{Forms, form_at}
-use Rattle.core_lint.proofs.FirstLemmas.{first_of, first_shown, upto_last, upto_same}
+use Rattle.core_walk.specs.First.{IsFaultOf, IsFirst, IsShown, by_function, by_node, first_in_modules}
+use Rattle.core_walk.specs.Walk.{Forms, form_at}
+use Rattle.core_walk.proofs.FirstLemmas.{first_of, first_shown, upto_last, upto_same}
 
 -- a fault of functions and nodes
 pub data KindFault (AtNode : Module → Node → Form → Type 0) (AtFunction : Module → ℕ → Function → Type 0) (program : Program) (kind : ℕ) : LintFault → Type 0 where

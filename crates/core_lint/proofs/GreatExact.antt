@@ -18,11 +18,10 @@ use Rattle.hy_core.specs.declared.tree.Expr.TheViews.{out-Expr}
 use Rattle.hy_core.specs.declared.tree.Function.{Function}
 use Rattle.hy_core.specs.declared.tree.Module.{Module}
 use Rattle.hy_core.specs.declared.tree.Program.{Program}
-use Rattle.core_lint.specs.First.{IsFirst, IsShown, by_function, by_node, first_in_modules}
+use Rattle.core_walk.specs.First.{IsFirst, IsShown, by_function, by_node, first_in_modules}
 use Rattle.core_lint.specs.GreatArity.{HasGreat, any_is_great, great, is_great}
-use Rattle.core_lint.specs.Repeated.{form_if}
-use Rattle.core_lint.specs.Walk.{form_at}
-use Rattle.core_lint.proofs.FirstLemmas.{first_shown}
+use Rattle.core_walk.specs.Walk.{form_at, form_if}
+use Rattle.core_walk.proofs.FirstLemmas.{first_shown}
 use Rattle.core_lint.proofs.RepeatedExact.{form_if-Some}
 
 get-Contains : {A : Type 0} (xs : List A) (k : ℕ) (x : A) → slice_get xs k ≡ Some x → Contains xs x

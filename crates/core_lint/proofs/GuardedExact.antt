@@ -22,8 +22,7 @@ use Rattle.hy_core.specs.declared.tree.Module.{Module}
 use Rattle.core_names.specs.Called.{called, does_of}
 use Rattle.core_lint.specs.GuardForm.{has_guard_form, is_false, is_variable, is_whole_guard}
 use Rattle.core_lint.specs.Guarded.{guarded, is_allowed, is_plain}
-use Rattle.core_lint.specs.Repeated.{form_if}
-use Rattle.core_lint.specs.Walk.{form_at}
+use Rattle.core_walk.specs.Walk.{form_at, form_if}
 use Rattle.core_names.specs.declared.built_in.BuiltIn.{BuiltIn}
 use Rattle.core_names.specs.declared.built_in.BuiltIn.TheVariants.{Plain, Setelement, Spawn, Other}
 use Rattle.core_names.proofs.CalledLemmas.{does-Plain}

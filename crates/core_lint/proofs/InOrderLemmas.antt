@@ -2,10 +2,10 @@
 use Rattle.std.proofs.Common.{◌≡◌, ℕ, ◌+◌, ◌<◌, ◌≤◌, ◌⊎◌, inl, inr, nat_lt, Bool, true, false, Option, is_some, Some, None, refl, arith, ltb-true, ltb-false}
 use Rattle.std.specs.Prelude.{MatchOption}
 use Rattle.hy_core.specs.Faults as f
-use Rattle.hy_core.specs.Faults.{IsAccepted, IsFault, IsLeastFault, IsUpTo, lower, order_of, form_place}
+use Rattle.hy_core.specs.Faults.{IsAccepted, IsFault, IsLeastFault, IsUpTo, lower, order_of}
 use Rattle.hy_core.specs.declared.fault.LintFault.{LintFault}
 use Rattle.hy_core.specs.declared.tree.Program.{Program}
-use Rattle.core_lint.specs.First.{IsFaultOf, IsFirst}
+use Rattle.core_walk.specs.First.{IsFaultOf, IsFirst}
 use Rattle.core_lint.specs.InOrder.{HasNoneBelow}
 
 -- there are ten kinds

@@ -1,14 +1,11 @@
-pub mod BoundLemmas
 pub mod Exact
 pub mod ExportLemmas
 pub mod ExportedLemmas
-pub mod FirstLemmas
 pub mod OfKind
 pub mod GreatExact
 pub mod GuardedExact
 pub mod InOrderLemmas
 pub mod MainExact
-pub mod NameCountLemmas
 pub mod NamedExact
 pub mod SizesLemmas
 pub mod PlaceLemmas
@@ -24,4 +21,3 @@ pub mod UndefinedExact
 pub mod UnknownExact
 pub mod UnknownLemmas
 pub mod ValuedExact
-pub mod WalkLemmas

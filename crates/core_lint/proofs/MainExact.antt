@@ -6,11 +6,11 @@ use Rattle.hy_core.specs.declared.fault.LintFault.{LintFault}
 use Rattle.hy_core.specs.declared.tree.Module.{Module}
 use Rattle.hy_core.specs.declared.tree.Program.{Program}
 use Rattle.core_lint.specs.Exports.{exports_name}
-use Rattle.core_lint.specs.First.{IsFirst}
+use Rattle.core_walk.specs.First.{IsFirst}
 use Rattle.core_lint.specs.MainExport.{first_missing}
 use Rattle.core_lint.specs.Unknown.{IsMissingMain, no_main}
 use Rattle.core_lint.proofs.ExportedLemmas.{name-found, name-kept}
-use Rattle.core_lint.proofs.FirstLemmas.{upto_same}
+use Rattle.core_walk.proofs.FirstLemmas.{upto_same}
 
 main-is : (m : Module) → exports_name m m.exports (codes "main") 0 ≡ true → ExportsMain m
 main-is m e = let h = name-found m m.exports (codes "main") 0 e in exports_main h.f h.stands h.same_name h.same_arity

@@ -8,9 +8,9 @@ use Rattle.hy_core.specs.NameFaults.{RepeatsModule, earlier, in_prelude, module_
 use Rattle.hy_core.specs.declared.fault.LintFault.{LintFault}
 use Rattle.hy_core.specs.declared.tree.Module.{Module}
 use Rattle.hy_core.specs.declared.tree.Program.{Program}
-use Rattle.core_lint.specs.First.{IsFaultOf, IsFirst}
+use Rattle.core_walk.specs.First.{IsFaultOf, IsFirst}
 use Rattle.core_lint.specs.Named.{first_repeated, is_named, repeats_name}
-use Rattle.core_lint.proofs.FirstLemmas.{first_of, upto_same}
+use Rattle.core_walk.proofs.FirstLemmas.{first_of, upto_same}
 use Rattle.core_lint.proofs.PlaceLemmas.{get-index, get-take, index-get, take-get}
 
 named-found : (ms : List Module) (text : List ℕ) → is_named ms text ≡ true → (m : Module) × (k : ℕ) × (slice_get ms k ≡ Some m) × (module_name m ≡ text)

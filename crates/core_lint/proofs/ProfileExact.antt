@@ -26,7 +26,7 @@ use Rattle.hy_core.specs.declared.tree.Module.{Module}
 use Rattle.core_names.specs.Called.{called, does_of}
 use Rattle.core_lint.specs.GuardForm.{has_guard_form, is_whole_guard}
 use Rattle.core_lint.specs.Profile.{is_applied, is_atom, is_for_timeout, is_name, is_spawn, is_spawnable, is_timeout, is_written_list, or_form, own_form, profile, spawn_form, timeout_form, unless}
-use Rattle.core_lint.specs.Walk.{form_at}
+use Rattle.core_walk.specs.Walk.{form_at}
 use Rattle.core_names.specs.declared.built_in.BuiltIn.{BuiltIn}
 use Rattle.core_names.specs.declared.built_in.BuiltIn.TheVariants.{Plain, Setelement, Spawn, Other}
 use Rattle.core_names.proofs.CalledLemmas.{does-Spawn}

@@ -3,9 +3,9 @@ use Rattle.std.proofs.Common.{◌≡◌, ℕ, suc, ◌+◌, ◌<◌, ◌==◌, �
 use Rattle.std.proofs.Math.Seq.{drop-cons}
 use Rattle.std.specs.List.{list_any, slice_index_or}
 use Rattle.hy_core.specs.NodeFaults.{Repeats, first_again, behind_first}
-use Rattle.core_lint.specs.Bound.{is_bound}
+use Rattle.core_walk.specs.Bound.{is_bound}
 use Rattle.core_lint.specs.Repeated.{repeats, repeats_after}
-use Rattle.core_lint.proofs.BoundLemmas.{is_bound-Contains, Contains-is_bound}
+use Rattle.core_walk.proofs.BoundLemmas.{is_bound-Contains, Contains-is_bound}
 
 pub eqb-sym : (x y : ℕ) → (x == y) ≡ (y == x)
 eqb-sym x y = by (x == y) refl (y == x) refl

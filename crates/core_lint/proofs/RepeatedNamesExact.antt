@@ -2,7 +2,7 @@
 use Rattle.std.proofs.Common.{◌≡◌, ℕ, zero, suc, ◌+◌, ◌<◌, ◌||◌, ◌⊎◌, inl, inr, Bool, true, false, is_some, List, [], ◌∷◌, take, Option, Some, None, slice_get, refl, sym, ap, ◌∙◌, subst, arith}
 use Rattle.std.specs.List.{Contains}
 use Rattle.hy_core.specs.Faults as f
-use Rattle.hy_core.specs.Faults.{fault, fault_of, IsFault, IsFunction, IsModule, lower, same, order_of}
+use Rattle.hy_core.specs.Faults.{fault, fault_of, IsFault, lower, same, order_of}
 use Rattle.hy_core.specs.NameFaults.{RepeatsFunction, earlier, RepeatsDefinition, in_letrec}
 use Rattle.hy_core.specs.NodeFaults.{Repeats, first_again, behind_first}
 use Rattle.hy_core.specs.Nodes.{Piece, AnExpr, APattern, FirstPattern, Context, Node, node, names_of}
@@ -21,16 +21,15 @@ use Rattle.hy_core.specs.declared.tree.FunName.{FunName}
 use Rattle.hy_core.specs.declared.tree.Function.{Function}
 use Rattle.hy_core.specs.declared.tree.Module.{Module}
 use Rattle.hy_core.specs.declared.tree.Program.{Program}
-use Rattle.core_lint.specs.First.{IsFaultOf, IsFirst, first_in_modules}
+use Rattle.core_walk.specs.First.{IsFaultOf, IsFirst, first_in_modules}
 use Rattle.core_lint.specs.Earlier as e
 use Rattle.core_lint.specs.FirstPlace.{fault_at}
 use Rattle.core_lint.specs.RepeatedNames.{first_again as first_of_names, first_repeated_function, repeated_names, repeated_names_layer, repeats_earlier}
-use Rattle.core_lint.specs.Repeated.{form_if}
-use Rattle.core_lint.specs.Walk.{form_at}
-use Rattle.core_lint.proofs.NameCountLemmas.{Contains-is_local, is_local-Contains, same-is_name, is_name-same}
+use Rattle.core_walk.specs.Walk.{form_at, form_if}
+use Rattle.core_walk.proofs.NameCountLemmas.{Contains-is_local, is_local-Contains, same-is_name, is_name-same}
 use Rattle.core_lint.proofs.EarlierLemmas.{IsPlain, earlier_first}
 use Rattle.core_lint.proofs.Exact.{IsExact, KindFault, holding_first, in_function, in_node}
-use Rattle.core_lint.proofs.FirstLemmas.{first_of, upto_same}
+use Rattle.core_walk.proofs.FirstLemmas.{first_of, upto_same}
 use Rattle.core_lint.proofs.FirstPlaceLemmas.{InModules, IsFaultAt, modules_first, none_holds, place_first, some_holds}
 use Rattle.core_lint.proofs.OfKind.{AtNoFunction}
 use Rattle.core_lint.proofs.RepeatedExact.{form_if-Some}

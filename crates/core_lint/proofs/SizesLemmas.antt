@@ -12,9 +12,9 @@ use Rattle.std.specs.Prelude.{IsErrOf}
 use Rattle.std.specs.declared.result.Result.TheVariants.{Err}
 use Rattle.core_lint.specs.declared.answer.LintAnswer.{LintAnswer}
 use Rattle.core_lint.specs.declared.answer.LintAnswer.TheVariants.{Fault}
-use Rattle.core_lint.specs.First.{IsFaultOf, IsFirst}
+use Rattle.core_walk.specs.First.{IsFaultOf, IsFirst}
 use Rattle.core_lint.specs.Sizes.{IsFirstSize, IsWithinBefore}
-use Rattle.core_lint.proofs.FirstLemmas.{upto_last}
+use Rattle.core_walk.proofs.FirstLemmas.{upto_last}
 
 module _ (program : Program) where
   place : (other : Form) → IsTooGreat program other → 10 ≤ form_place other

@@ -7,7 +7,7 @@ use Rattle.hy_core.specs.declared.tree.FunName.{FunName}
 use Rattle.hy_core.specs.declared.tree.Function.{Function}
 use Rattle.hy_core.specs.declared.tree.Module.{Module}
 use Rattle.core_lint.specs.Exports.{ExportTable}
-use Rattle.core_lint.specs.First.{fault_or, first_in_functions, function_outcome}
+use Rattle.core_walk.specs.First.{fault_or, first_in_functions, function_outcome}
 use Rattle.core_lint.specs.Unknown.{own_names, unknown}
 
 module _ (table : ExportTable) (m : Module) (defined : List FunName) (is : defined ≡ own_names m) where

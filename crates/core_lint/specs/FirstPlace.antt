@@ -2,7 +2,7 @@
 use Rattle.std.specs.Prelude.{ℕ, suc, Bool, if◌then◌else◌, List, [], ◌∷◌, Option, Some, None}
 use Rattle.hy_core.specs.declared.fault.LintFault.{LintFault}
 use Rattle.hy_core.specs.declared.tree.Module.{Module}
-use Rattle.core_lint.specs.First.{or_later}
+use Rattle.core_walk.specs.First.{or_later}
 
 -- from place k on
 abbrev pub first_where : {A : Type 0} → (ℕ → A → Bool) → (k : ℕ) → List A → Option ℕ

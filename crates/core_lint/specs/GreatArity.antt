@@ -6,8 +6,7 @@ use Rattle.hy_core.specs.Tables.{definitions_layer}
 use Rattle.hy_core.specs.declared.tree.Expr.TheViews.{out-Expr}
 use Rattle.hy_core.specs.declared.tree.Function.{Function}
 use Rattle.hy_core.specs.declared.tree.Module.{Module}
-use Rattle.core_lint.specs.Repeated.{form_if}
-use Rattle.core_lint.specs.Walk.{Forms}
+use Rattle.core_walk.specs.Walk.{Forms, form_if}
 
 -- a definition has too great an arity
 abbrev pub is_great : Function → Bool

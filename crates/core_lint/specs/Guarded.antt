@@ -11,8 +11,7 @@ use Rattle.hy_core.specs.declared.tree.Function.{Function}
 use Rattle.hy_core.specs.declared.tree.Module.{Module}
 use Rattle.core_names.specs.Called.{called}
 use Rattle.core_lint.specs.GuardForm.{has_guard_form, is_whole_guard}
-use Rattle.core_lint.specs.Repeated.{form_if}
-use Rattle.core_lint.specs.Walk.{Forms}
+use Rattle.core_walk.specs.Walk.{Forms, form_if}
 use Rattle.core_names.specs.declared.built_in.BuiltIn.{BuiltIn}
 use Rattle.core_names.specs.declared.built_in.BuiltIn.TheVariants.{Plain, Setelement, Spawn, Other}
 

@@ -1,14 +1,11 @@
-pub mod Bound
 pub mod Earlier
 pub mod Exports
-pub mod First
 pub mod FirstPlace
 pub mod GreatArity
 pub mod GuardForm
 pub mod Guarded
 pub mod InOrder
 pub mod MainExport
-pub mod NameCounts
 pub mod Named
 pub mod Profile
 pub mod Repeated
@@ -17,4 +14,3 @@ pub mod Sizes
 pub mod Unbound
 pub mod Unknown
 pub mod Valued
-pub mod Walk

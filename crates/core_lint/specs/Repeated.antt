@@ -1,16 +1,15 @@
 -- The check for variables that are bound twice at once.
-use Rattle.std.specs.Prelude.{ℕ, ◌||◌, Bool, true, false, List, [], ◌∷◌, ◌++◌, Option, Some, None}
+use Rattle.std.specs.Prelude.{ℕ, ◌||◌, Bool, false, List, [], ◌∷◌, ◌++◌, Option, None}
 use Rattle.hy_core.specs.SubPatterns.{clause_variables}
 use Rattle.hy_core.specs.declared.fault.Form.{Form}
-use Rattle.hy_core.specs.declared.fault.Form.TheVariants.{Absent}
 use Rattle.hy_core.specs.declared.tree.Clause.{Clause}
 use Rattle.hy_core.specs.declared.tree.Expr.{Expr}
 use Rattle.hy_core.specs.declared.tree.Expr.TheOpen as layer
 use Rattle.hy_core.specs.declared.tree.Expr.TheOpen.{Expr-F}
 use Rattle.hy_core.specs.declared.tree.Expr.TheViews.{out-Expr}
 use Rattle.hy_core.specs.declared.tree.Function.{Function}
-use Rattle.core_lint.specs.Bound.{is_bound}
-use Rattle.core_lint.specs.Walk.{Forms}
+use Rattle.core_walk.specs.Bound.{is_bound}
+use Rattle.core_walk.specs.Walk.{Forms, form_if}
 
 -- whether one of these variables was seen, or stands twice among them
 abbrev pub repeats_after : List ℕ → List ℕ → Bool
@@ -24,10 +23,6 @@ repeats xs = repeats_after [] xs
 abbrev pub repeats_parameter : List Function → Bool
 repeats_parameter [] = false
 repeats_parameter (f ∷ fs) = repeats f.params || repeats_parameter fs
-
-abbrev pub form_if : Bool → Option Form
-form_if true = Some Absent
-form_if false = None
 
 abbrev pub repeated_layer : Expr-F Expr Clause Function → Option Form
 repeated_layer (layer.Let vars value body) = form_if (repeats vars)

@@ -13,8 +13,7 @@ use Rattle.hy_core.specs.declared.tree.Expr.TheViews.{out-Expr}
 use Rattle.hy_core.specs.declared.tree.Function.{Function}
 use Rattle.hy_core.specs.declared.tree.Module.{Module}
 use Rattle.core_lint.specs.FirstPlace.{fault_at, first_by_module, first_where}
-use Rattle.core_lint.specs.Repeated.{form_if}
-use Rattle.core_lint.specs.Walk.{Forms}
+use Rattle.core_walk.specs.Walk.{Forms, form_if}
 
 -- the function of this place has the name of one before it
 abbrev pub repeats_earlier : List Function → ℕ → Function → Bool

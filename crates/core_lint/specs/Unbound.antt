@@ -9,8 +9,8 @@ use Rattle.hy_core.specs.declared.tree.Expr.TheOpen as layer
 use Rattle.hy_core.specs.declared.tree.Expr.TheOpen.{Expr-F}
 use Rattle.hy_core.specs.declared.tree.Expr.TheViews.{out-Expr}
 use Rattle.hy_core.specs.declared.tree.Function.{Function}
-use Rattle.core_lint.specs.Bound.{is_bound}
-use Rattle.core_lint.specs.Walk.{Forms}
+use Rattle.core_walk.specs.Bound.{is_bound}
+use Rattle.core_walk.specs.Walk.{Forms}
 
 abbrev pub unbound_layer : Context → Expr-F Expr Clause Function → Option Form
 unbound_layer c (layer.Var x) = if is_bound c.scope x then None else Some Absent

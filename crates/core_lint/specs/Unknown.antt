@@ -21,8 +21,7 @@ use Rattle.core_names.specs.Called.{called}
 use Rattle.core_names.specs.declared.built_in.BuiltIn.{BuiltIn}
 use Rattle.core_names.specs.declared.built_in.BuiltIn.TheVariants.{Plain, Setelement, Spawn, Other}
 use Rattle.core_lint.specs.Exports.{ExportTable, has_export}
-use Rattle.core_lint.specs.Repeated.{form_if}
-use Rattle.core_lint.specs.Walk.{Forms}
+use Rattle.core_walk.specs.Walk.{Forms, form_if}
 
 -- a function that isn't there, or is there with another number of arguments or parameters
 pub data IsUnknownOf (program : Program) : LintFault → Type 0 where

@@ -8,8 +8,7 @@ use Rattle.hy_core.specs.declared.tree.Expr.TheOpen as layer
 use Rattle.hy_core.specs.declared.tree.Expr.TheOpen.{Expr-F}
 use Rattle.hy_core.specs.declared.tree.Expr.TheViews.{out-Expr}
 use Rattle.hy_core.specs.declared.tree.Function.{Function}
-use Rattle.core_lint.specs.Repeated.{form_if}
-use Rattle.core_lint.specs.Walk.{Forms}
+use Rattle.core_walk.specs.Walk.{Forms, form_if}
 
 -- another number than is needed
 abbrev pub differs : Option ℕ → ℕ → Bool

@@ -3,8 +3,8 @@ ghost use Rattle.hy_terms.specs.Naming.{place_in};
 ghost use Rattle.hy_core.specs.NameFaults.{IsExported};
 ghost use Rattle.core_lint.specs.Exports.{has_export, has_row as has_row_at, is_export, is_exported, module_exports};
 
-use crate::texts::Texts;
 use core_names::atom_text;
+use core_tables::Texts;
 use hy_core::{Module, Program};
 use hy_terms::Memory;
 use indexmap::IndexSet;

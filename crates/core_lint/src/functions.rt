@@ -1,5 +1,5 @@
 ghost use Rattle.std.specs.Prelude.{IfOk};
-ghost use Rattle.core_lint.specs.First.{IsFaultOf, IsFirst};
+ghost use Rattle.core_walk.specs.First.{IsFaultOf, IsFirst};
 
 use crate::lesser::earlier;
 use crate::main_export::missing_main;

@@ -3,9 +3,7 @@ ghost use Rattle.hy_core.specs.Faults.{IsTooGreat};
 ghost use Rattle.hy_core.specs.declared.fault.Form.TheVariants.{Arity};
 ghost use Rattle.core_lint.specs.GreatArity.{HasGreat, any_is_great as one_is_great, great, is_great as is_so_great};
 
-use crate::check::{Check, form_of};
-use crate::first::first_in_program;
-use crate::position::{Position, Spot};
+use core_walk::{Check, Position, Spot, first_in_program, form_of};
 use hy_core::{Expr, Form, Function, Module, Pattern, Program};
 use hy_terms::Memory;
 use std::alloc::Global;

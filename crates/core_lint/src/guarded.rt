@@ -1,13 +1,11 @@
 ghost use Rattle.std.specs.Prelude.{◌≡◌, IfOk};
 ghost use Rattle.hy_core.specs.declared.tree.Expr.TheViews.{out-Expr};
-ghost use Rattle.core_lint.specs.First.{IsFaultOf, IsFirst};
+ghost use Rattle.core_walk.specs.First.{IsFaultOf, IsFirst};
 ghost use Rattle.core_lint.specs.Guarded.{guarded, is_allowed as may_be_held, is_plain as is_built_in_plain};
 
-use crate::check::{Check, form_of};
-use crate::first::first_in_program;
 use crate::guard_form::{has_guard_form, is_whole_guard};
-use crate::position::{Position, Spot};
 use core_names::{BuiltIn, called};
+use core_walk::{Check, Position, Spot, first_in_program, form_of};
 use hy_core::{Expr, Form, Function, LintFault, Module, Pattern, Place, Program};
 use hy_terms::Memory;
 use std::alloc::Global;

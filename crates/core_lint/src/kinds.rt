@@ -1,6 +1,6 @@
 ghost use Rattle.std.specs.Prelude.{◌≤◌, IfOk, MatchOption};
 ghost use Rattle.hy_core.specs.Faults.{IsLeastFault};
-ghost use Rattle.core_lint.specs.First.{IsFaultOf, IsFirst};
+ghost use Rattle.core_walk.specs.First.{IsFaultOf, IsFirst};
 ghost use Rattle.core_lint.specs.InOrder.{HasNoneBelow};
 
 use crate::functions::missing_function;

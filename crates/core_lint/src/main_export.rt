@@ -1,11 +1,11 @@
 ghost use Rattle.std.specs.Prelude.{◌≡◌, codes, IfOk};
 ghost use Rattle.core_lint.specs.Exports.{exports_name};
-ghost use Rattle.core_lint.specs.First.{IsFirst};
+ghost use Rattle.core_walk.specs.First.{IsFirst};
 ghost use Rattle.core_lint.specs.MainExport.{first_missing};
 ghost use Rattle.core_lint.specs.Unknown.{IsMissingMain};
 
-use crate::first::number;
 use core_names::atom_text;
+use core_walk::number;
 use hy_core::{Form, LintFault, Module, Program};
 use hy_terms::Memory;
 

@@ -1,10 +1,10 @@
 ghost use Rattle.std.specs.Prelude.{◌≡◌, ◌≤◌, length, IfOk};
 ghost use Rattle.hy_core.specs.NameFaults.{module_name as name_of_module};
-ghost use Rattle.core_lint.specs.First.{IsFaultOf, IsFirst};
+ghost use Rattle.core_walk.specs.First.{IsFaultOf, IsFirst};
 ghost use Rattle.core_lint.specs.Named.{first_repeated as first_of_names, is_named as is_so_named, repeats_name as repeats_one};
 
-use crate::first::number;
 use core_names::atom_text;
+use core_walk::number;
 use hy_core::{Form, LintFault, Module, Program};
 use hy_terms::Memory;
 

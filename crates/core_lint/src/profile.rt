@@ -1,14 +1,11 @@
 ghost use Rattle.std.specs.Prelude.{◌≡◌, IfOk};
 ghost use Rattle.hy_core.specs.declared.tree.Expr.TheViews.{out-Expr};
-ghost use Rattle.core_lint.specs.First.{IsFaultOf, IsFirst};
+ghost use Rattle.core_walk.specs.First.{IsFaultOf, IsFirst};
 ghost use Rattle.core_lint.specs.Profile.{is_applied as is_place_applied, is_atom as is_one_atom, is_for_timeout as is_place_for_timeout, is_name as is_one_name, is_spawn as is_built_in_spawn, is_spawnable as are_spawnable, is_timeout as is_one_timeout, is_written_list as is_list_written, own_form as own_form_of, profile, spawn_form as spawn_form_of, timeout_form as timeout_form_of, unless as unless_so};
 
-use crate::check::Check;
-use crate::first::first_in_program;
 use crate::guard_form::{has_guard_form, is_whole_guard};
-use crate::position::{Position, Spot};
-use crate::walk::is_nil;
 use core_names::{BuiltIn, atom_of, atom_text, called, is_match_fail};
+use core_walk::{Check, Position, Spot, first_in_program, is_nil};
 use hy_core::{Expr, Form, Function, LintFault, Module, Pattern, Place, Program};
 use hy_terms::Memory;
 use std::alloc::Global;

@@ -1,11 +1,8 @@
 ghost use Rattle.std.specs.Prelude.{◌≡◌, IfOk};
-ghost use Rattle.core_lint.specs.First.{IsFaultOf, IsFirst};
+ghost use Rattle.core_walk.specs.First.{IsFaultOf, IsFirst};
 ghost use Rattle.core_lint.specs.Repeated.{repeated, repeats as are_repeated, repeats_parameter as are_parameters_repeated};
 
-use crate::check::{Check, form_of};
-use crate::first::first_in_program;
-use crate::patterns::push_variables;
-use crate::position::{Position, Spot};
+use core_walk::{Check, Position, Spot, first_in_program, form_of, push_variables};
 use hy_core::{Expr, Form, Function, LintFault, Module, Pattern, Program};
 use hy_terms::Memory;
 use indexmap::IndexSet;

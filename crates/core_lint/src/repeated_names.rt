@@ -1,12 +1,9 @@
 ghost use Rattle.std.specs.Prelude.{◌≡◌, IfOk};
-ghost use Rattle.core_lint.specs.First.{IsFaultOf, IsFirst};
+ghost use Rattle.core_walk.specs.First.{IsFaultOf, IsFirst};
 ghost use Rattle.core_lint.specs.RepeatedNames.{first_again as first_of_names, first_repeated_function as first_of_functions, repeated_names};
 
-use crate::check::{Check, form_of};
-use crate::first::{first_in_program, number};
-use crate::function_names::FunctionNames;
 use crate::lesser::earlier;
-use crate::position::{Position, Spot};
+use core_walk::{Check, FunctionNames, Position, Spot, first_in_program, form_of, number};
 use hy_core::{Expr, Form, Function, LintFault, Module, Pattern, Program};
 use hy_terms::Memory;
 use std::alloc::Global;

@@ -1,7 +1,7 @@
 ghost use Rattle.std.specs.Prelude.{◌≡◌, IfOk, IsErrOf, None, OnOk, Some};
 ghost use Rattle.hy_core.specs.Faults.{fault_of};
 ghost use Rattle.hy_core.specs.Tables.{program_atoms};
-ghost use Rattle.core_lint.specs.First.{IsFaultOf, IsFirst};
+ghost use Rattle.core_walk.specs.First.{IsFaultOf, IsFirst};
 ghost use Rattle.core_lint.specs.Sizes.{IsWithinBefore};
 
 use crate::answer::LintAnswer;

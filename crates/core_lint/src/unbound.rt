@@ -1,10 +1,8 @@
 ghost use Rattle.std.specs.Prelude.{IfOk};
-ghost use Rattle.core_lint.specs.First.{IsFaultOf, IsFirst};
+ghost use Rattle.core_walk.specs.First.{IsFaultOf, IsFirst};
 ghost use Rattle.core_lint.specs.Unbound.{unbound};
 
-use crate::check::Check;
-use crate::first::first_in_program;
-use crate::position::{Position, Spot};
+use core_walk::{Check, Position, Spot, first_in_program};
 use hy_core::{Expr, Form, Function, LintFault, Module, Pattern, Program};
 use hy_terms::Memory;
 use std::alloc::Global;

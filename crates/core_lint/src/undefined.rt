@@ -1,9 +1,8 @@
 ghost use Rattle.std.specs.Prelude.{◌≡◌, IfOk};
-ghost use Rattle.core_lint.specs.First.{IsFaultOf, IsFirst};
+ghost use Rattle.core_walk.specs.First.{IsFaultOf, IsFirst};
 ghost use Rattle.core_lint.specs.RepeatedNames.{first_undefined as first_of_exports, first_undefined_export as first_of_modules};
 
-use crate::first::number;
-use crate::function_names::FunctionNames;
+use core_walk::{FunctionNames, number};
 use hy_core::{Form, LintFault, Module, Program};
 use hy_terms::Memory;
 use std::alloc::Global;

@@ -1,16 +1,12 @@
 ghost use Rattle.std.specs.Prelude.{◌≡◌, IfOk};
 ghost use Rattle.hy_core.specs.Numbered.{atom_layer};
 ghost use Rattle.hy_core.specs.declared.tree.Expr.TheViews.{out-Expr};
-ghost use Rattle.core_lint.specs.First.{IsFirst, first_in_functions, first_in_modules};
+ghost use Rattle.core_walk.specs.First.{IsFirst, first_in_functions, first_in_modules};
 ghost use Rattle.core_lint.specs.Unknown.{IsUnknownOf, calls_unknown as calls_one_unknown, fits_arity as fits_one_arity, has_other_parameters as have_other_parameters, is_unknown_call as is_one_unknown_call, is_unknown_name as is_one_unknown_name, name_layer, own_names, spawns_unknown as spawns_one_unknown, unknown, written_length as length_written};
 
-use crate::check::{Check, form_of};
 use crate::exports::Exports;
-use crate::first::first_in_module;
-use crate::function_names::FunctionNames;
-use crate::position::{Position, Spot};
-use crate::walk::is_nil;
 use core_names::{BuiltIn, atom_of, atom_text, called};
+use core_walk::{Check, FunctionNames, Position, Spot, first_in_module, form_of, is_nil};
 use hy_core::{Expr, Form, FunName, Function, LintFault, Module, Pattern, Program};
 use hy_terms::Memory;
 use std::alloc::Global;

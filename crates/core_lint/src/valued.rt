@@ -1,14 +1,11 @@
 ghost use Rattle.std.specs.Prelude.{◌≡◌, IfOk};
 ghost use Rattle.hy_core.specs.NodeFaults.{gives as values_of};
 ghost use Rattle.hy_core.specs.declared.tree.Expr.TheViews.{out-Expr};
-ghost use Rattle.core_lint.specs.First.{IsFaultOf, IsFirst};
+ghost use Rattle.core_walk.specs.First.{IsFaultOf, IsFirst};
 ghost use Rattle.core_lint.specs.Valued.{all_have as all_have_patterns, differs as is_different, valued, wrong_patterns as are_patterns_wrong};
 
-use crate::cases::needs_of_case;
-use crate::check::{Check, form_of};
-use crate::first::first_in_program;
-use crate::position::{Position, Spot};
 use core_names::is_match_fail;
+use core_walk::{Check, Position, Spot, first_in_program, form_of, needs_of_case};
 use hy_core::{Clause, Expr, Form, Function, LintFault, Module, Pattern, Program};
 use hy_terms::Memory;
 use std::alloc::Global;

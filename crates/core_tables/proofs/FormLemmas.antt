@@ -1,14 +1,12 @@
 -- Forms whose parts are numbered.
-use Rattle.std.proofs.Common.{◌≡◌, ℕ, suc, ◌+◌, ◌<◌, ◌≤◌, List, [], ◌∷◌, ◌++◌, length, map, replicate, Option, Some, None, Result, Ok, Err, refl, sym, ap, ◌∙◌, arith}
+use Rattle.std.proofs.Common.{◌≡◌, ℕ, suc, ◌+◌, ◌<◌, ◌≤◌, List, [], ◌∷◌, ◌++◌, length, map, replicate, Option, Result, Ok, Err, refl, sym, ap, ◌∙◌, arith}
 use Rattle.std.specs.List.{slice_index_or}
 use Rattle.std.specs.Prelude.{IfOk}
 use Rattle.hy_terms.specs.declared.memory.Memory.{Memory}
-use Rattle.hy_core.specs.BuiltIn as operation
-use Rattle.hy_core.specs.BuiltIn.{Operation}
 use Rattle.hy_core.specs.Counting.{Counts, next, made, at_node}
 use Rattle.hy_core.specs.Expressions as trees
 use Rattle.hy_core.specs.Expressions.{clause_of}
-use Rattle.hy_core.specs.Numbered.{called, numbered, numbered_pattern, sites_of}
+use Rattle.hy_core.specs.Numbered.{numbered, numbered_pattern, sites_of}
 use Rattle.hy_core.specs.SubPatterns.{patterns_in}
 use Rattle.hy_core.specs.Tables.{renamed_name}
 use Rattle.hy_core.specs.declared.info.SiteKind.TheVariants.{Cons, Setelement}
@@ -22,47 +20,24 @@ use Rattle.hy_core.specs.declared.tree.FunName.{FunName}
 use Rattle.hy_core.specs.declared.tree.Function.{Function}
 use Rattle.hy_core.specs.declared.tree.Module.{Module}
 use Rattle.hy_core.specs.declared.tree.Pattern.{Pattern}
-use Rattle.core_names.specs.Called as names
 use Rattle.core_names.specs.Called.{does_of}
 use Rattle.core_names.specs.declared.built_in.BuiltIn.{BuiltIn}
+use Rattle.core_tables.proofs.CallLemmas.{args-does, sites-does}
 use Rattle.core_tables.proofs.CountingLemmas.{of_two, past, then}
 use Rattle.core_tables.proofs.NumberedLemmas.{by_form, by_spawned_form, numbered-parts, numbered_clause-parts, numbered_definition-parts}
-use Rattle.core_tables.specs.CallParts.{built_in_sites, built_in_args}
+use Rattle.core_tables.specs.CallParts.{built_in_args, call_sites}
 use Rattle.core_tables.specs.NumberedParts.{spawned, numbered_clause, numbered_definition, numbered_each, numbered_tail, numbered_layer, spawned_layer, spawn_args, operation_of, call_args}
 
-sites-does : (o : Option Operation) → built_in_sites (does_of o) ≡ sites_of o
-sites-does None = refl
-sites-does (Some (operation.Plain b)) = refl
-sites-does (Some operation.SetsElement) = refl
-sites-does (Some operation.Sends) = refl
-sites-does (Some operation.Spawns) = refl
-sites-does (Some operation.Displays) = refl
-sites-does (Some (operation.RaisesAs class)) = refl
-
 module _ (table : List (List ℕ)) (m : Module) where
-  pub called-does : (a b : Option ℕ) (arity : ℕ) → names.called m a b arity ≡ does_of (called table m a b arity)
-  called-does (Some a) (Some b) arity = refl
-  called-does (Some a) None arity = refl
-  called-does None b arity = refl
-
-  args-does : (o : Option Operation) (args : List Expr) → built_in_args table m (does_of o) args ≡ call_args table m o args
-  args-does None args = refl
-  args-does (Some (operation.Plain b)) args = refl
-  args-does (Some operation.SetsElement) args = refl
-  args-does (Some operation.Sends) args = refl
-  args-does (Some operation.Spawns) args = refl
-  args-does (Some operation.Displays) args = refl
-  args-does (Some (operation.RaisesAs class)) args = refl
-
   -- a call whose parts are numbered
   pub call-made : (x y : Expr) (args : List Expr) (function times : ℕ) (built_in : Option BuiltIn) (before : Counts) {n1 n2 n3 after : Counts} {first : ℕ} {a b : Expr} {xs : List Expr}
-      → built_in ≡ does_of (operation_of table m x y args) → replicate times Setelement ≡ built_in_sites built_in
+      → built_in ≡ does_of (operation_of table m x y args) → times ≡ call_sites built_in
       → (first, n1) ≡ at_node (replicate times Setelement) made function before → (a, n2) ≡ numbered table m x function n1 → (b, n3) ≡ numbered table m y function n2
       → (xs, after) ≡ built_in_args table m built_in args function n3 → (e.Call a b xs, after) ≡ numbered_layer table m (layer.Call x y args) function before
   call-made x y args function times built_in before {n3 = n3} {a = a} {b = b} is sites p q r s =
       let o = operation_of table m x y args in
-      let own = sites ∙ ap built_in_sites is ∙ sites-does o in
-      let rest = s ∙ (λ i. built_in_args table m (is i) args function n3) ∙ (λ i. args-does o args i function n3) in
+      let own : replicate times Setelement ≡ sites_of o = ap (λ (n : ℕ). replicate n Setelement) (sites ∙ ap call_sites is) ∙ sites-does o in
+      let rest = s ∙ (λ i. built_in_args table m (is i) args function n3) ∙ (λ i. args-does table m o args i function n3) in
       then (at_node (sites_of o) made) (λ _. next (numbered table m x) λ a. next (numbered table m y) λ b. next (call_args table m o args) λ xs. made (e.Call a b xs)) function
       (p ∙ (λ i. at_node (own i) made function before))
       (then (numbered table m x) (λ a. next (numbered table m y) λ b. next (call_args table m o args) λ xs. made (e.Call a b xs)) function q

@@ -1,3 +1,4 @@
+pub mod CallLemmas
 pub mod FunctionLemmas
 pub mod CountingLemmas
 pub mod FormLemmas

@@ -3,8 +3,12 @@ use Rattle.std.proofs.Common.{◌≡◌, ℕ, ◌+◌, ◌<◌, List, [], ◌∷
 use Rattle.std.proofs.lemmas.Grind.{common_steps}
 use Rattle.std.proofs.lemmas.List.{take_more, take-append-drop}
 use Rattle.std.proofs.lemmas.Option.{get_or_from_slice_get}
-use Rattle.hy_terms.proofs.NamingLemmas.{place_in-kept, slice_get-below, slice_get-place_in}
-use Rattle.hy_terms.specs.Naming.{place_in, IsTable}
+use Rattle.hy_terms.proofs.NamingLemmas.{named-new, place_in-kept, slice_get-below, slice_get-place_in}
+use Rattle.hy_terms.specs.Naming.{named, place_in, IsTable}
+
+-- a text that is named first goes last
+pub named-last : (texts after : List (List ℕ)) (text : List ℕ) (k : ℕ) → place_in texts text ≡ None → named texts text ≡ (k, after) → after ≡ texts ++ text ∷ []
+named-last texts after text k absent is = (λ i. (sym is i).1) ∙ (λ i. (named-new texts text absent i).1)
 
 pub take-at : {A : Type 0} (xs : List A) (i : ℕ) (x : A) → slice_get xs i ≡ Some x → take (i + 1) xs ≡ take i xs ++ x ∷ []
 take-at xs i x h = take_more xs i x (slice_get-below xs i x h) ∙ ap (λ y. take i xs ++ y ∷ []) (get_or_from_slice_get xs i x x h)

@@ -11,7 +11,7 @@ use Rattle.hy_core.specs.BuiltIn.{Operation}
 use Rattle.hy_core.specs.Counting.{Counts, Numbering, made, next, at_node, behind, in_definition}
 use Rattle.hy_core.specs.Expressions.{function, clause_of}
 use Rattle.hy_core.specs.NameFaults.{modules_of}
-use Rattle.hy_core.specs.Numbered.{numbered, numbered_pattern, numbered_functions, numbered_given, numbered_modules, program_sites, atom_layer, called, function_count, sites_of, tail_layer}
+use Rattle.hy_core.specs.Numbered.{numbered, numbered_pattern, numbered_functions, numbered_given, numbered_modules, program_sites, atom_layer, function_count, sites_of, tail_layer}
 use Rattle.hy_core.specs.SubPatterns.{patterns_in}
 use Rattle.hy_core.specs.Tables.{program_atoms, renamed, renamed_name}
 use Rattle.hy_core.specs.declared.info.SiteInfo.{SiteInfo}
@@ -29,10 +29,11 @@ use Rattle.hy_core.specs.declared.tree.Function.{Function}
 use Rattle.hy_core.specs.declared.tree.Module.{Module}
 use Rattle.hy_core.specs.declared.tree.Pattern.{Pattern}
 use Rattle.hy_core.specs.declared.tree.Program.{Program}
-use Rattle.core_names.specs.Called as names
 use Rattle.core_names.specs.Called.{does_of}
 use Rattle.core_tables.specs.NumberedParts.{each, spawned, numbered_clause, numbered_definition, numbered_each, numbered_list, numbered_tail, numbered_layer, spawned_layer, clause_layer, definition_layer, call_args, spawn_args, operation_of}
-use Rattle.core_tables.specs.SiteCount.{site_count, spawned_count, clause_sites, definition_sites, own_sites, spawned_own_sites, part_sites, call_sites, args_sites, spawn_sites, module_sites, modules_sites, sites_made}
+use Rattle.core_tables.specs.CallParts.{call_sites}
+use Rattle.core_tables.specs.SiteCount.{site_count, spawned_count, clause_sites, definition_sites, own_sites, spawned_own_sites, part_sites, args_sites, spawn_sites, module_sites, modules_sites, sites_made}
+use Rattle.core_tables.proofs.CallLemmas.{call_sites-does, called-does}
 use Rattle.core_tables.proofs.NumberedLemmas.{numbered-parts, spawned-parts, numbered_clause-parts, numbered_definition-parts}
 
 -- a numbering makes so many sites, whatever was counted before
@@ -80,22 +81,6 @@ makes-once : {A : Type 0} {p : Numbering A} {i j : ℕ} → Makes p i → Makes 
 makes-once h k =
     let none : Counts = record { node = 0; local = 0; sites = [] } in
     omega (arith, h.sites 0 none, k.sites 0 none)
-
--- a call by what it does
-call_sites-does : (o : Option Operation) → length (sites_of o) ≡ call_sites (does_of o)
-call_sites-does None = refl
-call_sites-does (Some (built.Plain b)) = refl
-call_sites-does (Some built.SetsElement) = refl
-call_sites-does (Some built.Sends) = refl
-call_sites-does (Some built.Spawns) = refl
-call_sites-does (Some built.Displays) = refl
-call_sites-does (Some (built.RaisesAs class)) = refl
-
-module _ (table : List (List ℕ)) (m : Module) where
-  called-does : (a b : Option ℕ) (arity : ℕ) → does_of (called table m a b arity) ≡ names.called m a b arity
-  called-does (Some a) (Some b) arity = refl
-  called-does (Some a) None arity = refl
-  called-does None b arity = refl
 
 module _ (m : Module) where
   record Counted (x : Expr) : Type 0 where
@@ -176,7 +161,7 @@ module _ (m : Module) where
     layer-made (layer.Apply x xs) = makes-same (makes-node [] (λ _. makes-next (x.1.whole table) (λ w. makes-next (exprs-made xs) (λ ys. makes-made (e.Apply w ys))))) (omega arith)
     layer-made (layer.Call x y xs) =
         let o = operation_of table m x.0 y.0 (trees xs) in
-        let does = called-does table m (atom_layer (out-Expr x.0)) (atom_layer (out-Expr y.0)) (length (trees xs)) in
+        let does = sym (called-does table m (atom_layer (out-Expr x.0)) (atom_layer (out-Expr y.0)) (length (trees xs))) in
         let own = call_sites-does o ∙ ap call_sites does in
         let args = ap (λ b. args_sites m b (trees xs)) does in
         makes-same (makes-node (sites_of o) (λ _. makes-next (x.1.whole table) (λ a. makes-next (y.1.whole table) (λ b. makes-next (args-made o xs) (λ ys. makes-made (e.Call a b ys)))))) (omega (arith, own, args))

@@ -11,7 +11,8 @@ use Rattle.hy_core.specs.declared.tree.Function.{Function}
 use Rattle.hy_core.specs.declared.tree.Module.{Module}
 use Rattle.core_names.specs.Called.{called}
 use Rattle.core_names.specs.declared.built_in.BuiltIn.{BuiltIn}
-use Rattle.core_names.specs.declared.built_in.BuiltIn.TheVariants.{Setelement, Spawn}
+use Rattle.core_names.specs.declared.built_in.BuiltIn.TheVariants.{Spawn}
+use Rattle.core_tables.specs.CallParts.{call_sites}
 use Rattle.core_tables.specs.NumberedParts.{spawned}
 
 -- how many sites a numbering makes where nothing was counted before
@@ -22,11 +23,6 @@ sites_made numbering = length (numbering 0 (record { node = 0; local = 0; sites 
 abbrev pub is_list_layer : Expr-F Expr Clause Function → Bool
 is_list_layer (layer.List site heads tail) = true
 is_list_layer _ = false
-
--- a call of `setelement` builds a tuple
-abbrev pub call_sites : Option BuiltIn → ℕ
-call_sites (Some Setelement) = 1
-call_sites _ = 0
 
 module _ (m : Module) where
   -- how many sites an expression has; the program's atoms have no part in that

@@ -1,16 +1,14 @@
-ghost use Rattle.std.specs.Prelude.{◌≡◌, replicate};
-ghost use Rattle.hy_core.specs.declared.info.SiteKind.TheVariants.{Setelement};
-ghost use Rattle.core_tables.specs.CallParts.{built_in_sites};
+ghost use Rattle.std.specs.Prelude.{◌≡◌};
+ghost use Rattle.core_tables.specs.CallParts.{call_sites as sites_of_call};
 
 use core_names::BuiltIn;
 
 /// How many sites a call of this built-in has of its own.
-pub fn own_sites(built_in: Option<BuiltIn>) -> usize
-    ensures { replicate result Setelement ≡ built_in_sites built_in }
+pub fn call_sites(built_in: Option<BuiltIn>) -> usize
+    ensures { result ≡ sites_of_call built_in }
 {
-    if let Some(BuiltIn::Setelement) = built_in {
-        1
-    } else {
-        0
+    match built_in {
+        Some(BuiltIn::Setelement) => 1,
+        Some(BuiltIn::Plain | BuiltIn::Spawn | BuiltIn::Other) | None => 0,
     }
 }

@@ -1,22 +1,13 @@
 ghost use Rattle.std.specs.Prelude.{◌≡◌, ◌+◌, length, sum_by, IfOk, OnOk};
 ghost use Rattle.hy_core.specs.Numbered.{program_sites};
 ghost use Rattle.hy_core.specs.declared.tree.Expr.TheViews.{out-Expr};
-ghost use Rattle.core_tables.specs.SiteCount.{site_count as sites_in, spawned_count, args_sites, call_sites as sites_of_call, clause_sites, definition_sites, is_list_layer, module_sites, modules_sites, own_sites as sites_at, part_sites, spawn_sites, spawned_own_sites};
+ghost use Rattle.core_tables.specs.SiteCount.{site_count as sites_in, spawned_count, args_sites, clause_sites, definition_sites, is_list_layer, module_sites, modules_sites, own_sites as sites_at, part_sites, spawn_sites, spawned_own_sites};
 
+use crate::call::call_sites;
 use crate::local_count::add;
 use core_names::{BuiltIn, called};
 use hy_core::{Clause, Expr, Function, Module, Program};
 use hy_terms::Memory;
-
-// How many sites a call of a built-in has by itself.
-fn call_sites(built_in: Option<BuiltIn>) -> usize
-    ensures { result ≡ sites_of_call built_in }
-{
-    match built_in {
-        Some(BuiltIn::Setelement) => 1,
-        Some(BuiltIn::Plain | BuiltIn::Spawn | BuiltIn::Other) | None => 0,
-    }
-}
 
 // How many sites the node of an expression has.
 fn own_sites(names: &Module, expr: &Expr) -> usize

@@ -3,7 +3,7 @@ ghost use Rattle.hy_core.specs.Numbered.{numbered};
 ghost use Rattle.core_tables.specs.CallParts.{built_in_args};
 ghost use Rattle.core_tables.specs.NumberedParts.{each, numbered_each, numbered_tail, numbered_clause, numbered_definition, spawned, spawn_args};
 
-use crate::call::own_sites;
+use crate::call::call_sites;
 use crate::numbers::Numbers;
 use crate::patterns::{copied_text, number_patterns};
 use crate::places::{Places, renamed, renamed_name};
@@ -106,7 +106,7 @@ pub fn number_expr(
         }
         Expr::Call { module, name, args } => {
             let built_in = called(names, module.get(), name.get(), args.len());
-            numbers.build(function, SiteKind::Setelement, own_sites(built_in))?;
+            numbers.build(function, SiteKind::Setelement, call_sites(built_in))?;
             let module = number_boxed(alloc, places, names, numbers, function, module)?;
             let name = number_boxed(alloc, places, names, numbers, function, name)?;
             let args = number_args(alloc, places, names, numbers, function, built_in, args)?;

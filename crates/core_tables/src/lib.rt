@@ -16,6 +16,7 @@ mod repeated;
 mod table;
 #[cfg(test)]
 mod tests;
+mod texts;
 
 pub use counted_functions::function_count;
 pub use counted_sites::site_count;
@@ -24,3 +25,4 @@ pub use numbering::{Numbered, number_program};
 pub use pattern_nodes::pass_patterns;
 pub use places::Places;
 pub use table::program_table;
+pub use texts::Texts;

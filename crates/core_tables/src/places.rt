@@ -1,48 +1,30 @@
-ghost use Rattle.std.specs.Prelude.{◌≡◌, ◌<◌, [], ◌∷◌, ◌++◌, length, map, IfOk, OnOk, IfSome, None};
+ghost use Rattle.std.specs.Prelude.{◌≡◌, IfOk};
 ghost use Rattle.hy_terms.specs.Naming.{place_in};
 ghost use Rattle.hy_core.specs.Tables.{renamed as renamed_in, renamed_name as renamed_name_in, info_of as info_in};
 
+use crate::texts::Texts;
 use core_names::atom_text;
 use hy_core::{FunInfo, FunName, Function, Module};
 use hy_terms::{Atoms, Memory};
-use indexmap::IndexSet;
-use std::alloc::{AllocError, Global};
+use std::alloc::Global;
 use std::marker::Model;
 
-/// A table of texts in which the place of a text is looked up and not searched.
+/// A table of atoms in which the number of a text is looked up and not searched.
 ///
 /// A contract sees it as the list of its texts.
 #[derive(Drop)]
 pub struct Places {
-    texts: IndexSet<Vec<u8>>,
+    texts: Texts,
 }
 
 impl Model for Places {
-    ghost use Rattle.std.specs.Prelude.{List, ℕ, map, length, ◌≤◌, ◌^◌};
+    ghost use Rattle.std.specs.Prelude.{List, ℕ, length, ◌≤◌, ◌^◌};
 
     ghost Value = { List (List ℕ) };
 
-    ghost view = { λ p. map (λ text. text.items) p.texts.keys };
+    ghost view = { λ p. p.texts };
 
-    ghost invariant = { λ p. length p.texts.keys ≤ 2 ^ 20 };
-}
-
-// The place of a text among the keys.
-fn place_of(texts: &IndexSet<Vec<u8>>, text: &[u8]) -> Option<usize>
-    ensures place { result ≡ place_in (map (λ key. key.items) texts.now.keys) text.now }
-    ensures within { IfSome result (λ place. place < length texts.now.keys) }
-{
-    texts.get_index_of(text)
-}
-
-// Puts a text that is not among the keys behind them.
-fn add(texts: &mut IndexSet<Vec<u8>>, text: &[u8]) -> Result<(), AllocError>
-    requires { place_in (map (λ key. key.items) texts.old.keys) text.now ≡ None }
-    ensures { OnOk result (map (λ key. key.items) texts.new.keys ≡ map (λ key. key.items) texts.old.keys ++ text.now ∷ []) }
-{
-    let copy = Vec::from_slice(*texts.allocator(), text)?;
-    texts.insert_full(copy)?;
-    Ok(())
+    ghost invariant = { λ p. length p.texts ≤ 2 ^ 20 };
 }
 
 impl Places {
@@ -50,18 +32,18 @@ impl Places {
     pub fn of(alloc: Global, table: &Atoms) -> Result<Places, Memory>
         ensures { IfOk result (λ places. places ≡ table.now) }
     {
-        let mut texts = IndexSet::new(alloc);
+        let mut texts = Texts::new(alloc);
         for atom in 0..table.len() {
-            add(&mut texts, table.text(atom))?;
+            texts.name(table.text(atom))?;
         }
         Ok(Places { texts })
     }
 
-    /// The place of a text, where it has one.
+    /// The number of a text, where it has one.
     pub fn place(&self, text: &[u8]) -> Option<u32>
         ensures { result ≡ place_in self.now text.now }
     {
-        if let Some(place) = place_of(&self.texts, text) {
+        if let Some(place) = self.texts.place(text) {
             return Some(place as u32);
         }
         None

@@ -1,5 +1,5 @@
 use Rattle.std.proofs.Common.{sym, subst}
-use Rattle.core_lint.specs.First.{IsFaultOf, IsFirst}
+use Rattle.core_walk.specs.First.{IsFaultOf, IsFirst}
 use Rattle.core_lint.proofs.FunctionsExact.{lesser_exact}
 use Rattle.core_lint.proofs.functions.missing_function.Goals as goal
 

@@ -1,5 +1,5 @@
 use Rattle.std.proofs.Common.{refl}
-use Rattle.core_lint.specs.First.{IsFaultOf}
+use Rattle.core_walk.specs.First.{IsFaultOf}
 use Rattle.core_lint.specs.Named.{first_repeated}
 use Rattle.core_lint.proofs.Exact.{answers}
 use Rattle.core_lint.proofs.NamedExact.{named_exact}

@@ -1,6 +1,6 @@
 use Rattle.std.proofs.Common.{ap, sym, ◌∙◌, subst}
 use Rattle.core_lint.specs.Earlier.{earlier}
-use Rattle.core_lint.specs.First.{IsFaultOf, IsFirst, first_in_modules}
+use Rattle.core_walk.specs.First.{IsFaultOf, IsFirst, first_in_modules}
 use Rattle.core_lint.specs.RepeatedNames.{first_repeated_function, repeated_names}
 use Rattle.core_lint.proofs.RepeatedNamesExact.{repeated_names_exact}
 use Rattle.core_lint.proofs.repeated_names.repeated_function.Goals as goal

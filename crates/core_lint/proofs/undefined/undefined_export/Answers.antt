@@ -1,4 +1,4 @@
-use Rattle.core_lint.specs.First.{IsFaultOf}
+use Rattle.core_walk.specs.First.{IsFaultOf}
 use Rattle.core_lint.specs.RepeatedNames.{first_undefined_export}
 use Rattle.core_lint.proofs.Exact.{answers}
 use Rattle.core_lint.proofs.UndefinedExact.{undefined_exact}

@@ -1,5 +1,5 @@
 use Rattle.std.proofs.Common.{◌≡◌, drop}
-use Rattle.core_lint.specs.First.{first_in_modules}
+use Rattle.core_walk.specs.First.{first_in_modules}
 use Rattle.core_lint.specs.Unknown.{own_names, unknown}
 use Rattle.core_lint.proofs.unknown.first_unknown.Given as goal
 

@@ -1,4 +1,4 @@
-use Rattle.core_lint.specs.First.{first_in_modules}
+use Rattle.core_walk.specs.First.{first_in_modules}
 use Rattle.core_lint.specs.Unknown.{IsUnknownOf, own_names, unknown}
 use Rattle.core_lint.proofs.Exact.{answers}
 use Rattle.core_lint.proofs.UnknownExact.{unknown_first}

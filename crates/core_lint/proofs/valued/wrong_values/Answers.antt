@@ -1,4 +1,4 @@
-use Rattle.core_lint.specs.First.{IsFaultOf, first_in_modules}
+use Rattle.core_walk.specs.First.{IsFaultOf, first_in_modules}
 use Rattle.core_lint.specs.Valued.{valued}
 use Rattle.core_lint.proofs.Exact.{answers, exact_first}
 use Rattle.core_lint.proofs.OfKind.{AtNoFunction, ValuesAt, values_from, values_to}

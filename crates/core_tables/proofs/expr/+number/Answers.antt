@@ -7,7 +7,8 @@ use Rattle.hy_core.specs.declared.info.SiteKind.TheVariants as kind
 use Rattle.hy_core.specs.declared.tree.Expr.TheVariants as e
 use Rattle.hy_core.specs.declared.tree.Expr.TheViews.{outs-Int, outs-Atom, outs-Nil, outs-Str, outs-Var, outs-Name, outs-Tuple, outs-Values, outs-Let, outs-Do, outs-Case, outs-Letrec, outs-Apply, outs-Call, outs-Primop, outs-Receive, outs-Try, outs-Catch, outs-Fun}
 use Rattle.core_tables.specs.NumberedParts.{each, numbered_each, numbered_clause, numbered_definition}
-use Rattle.core_tables.proofs.FormLemmas.{call-made, called-does, clause-made, definition-made, leaf-made, list-made, spawned_list-made, spawned_other-made, spawn_args-made, three_items}
+use Rattle.core_tables.proofs.CallLemmas.{called-does}
+use Rattle.core_tables.proofs.FormLemmas.{call-made, clause-made, definition-made, leaf-made, list-made, spawned_list-made, spawned_other-made, spawn_args-made, three_items}
 use Rattle.core_tables.proofs.CountingLemmas.{each-take, of_one, of_two, of_three, then}
 use Rattle.core_tables.proofs.NumberedLemmas.{by_form}
 use Rattle.core_tables.proofs.expr.+number.Goals as goal
@@ -143,7 +144,7 @@ number_expr-returns-in_ok-args-in-Call _ c =
     let n = c.args.numbers.now in
     let is = c.called-built_in.ensures ∙ called-does t m _ _ _ ∙ cc in
     by_form t m c.in-Call.is (outs-Call _ _ _) k n
-    (call-made t m c.in-Call.«module» c.in-Call.name c.in-Call.args k c.own_sites.result c.called-built_in.result n is c.own_sites.ensures c.in_ok-build-in-Call.ensures c.in_ok-module-in-Call.ensures c.in_ok-name-in-Call.ensures c.in_ok-args-in-Call.ensures)
+    (call-made t m c.in-Call.«module» c.in-Call.name c.in-Call.args k c.call_sites.result c.called-built_in.result n is c.call_sites.ensures c.in_ok-build-in-Call.ensures c.in_ok-module-in-Call.ensures c.in_ok-name-in-Call.ensures c.in_ok-args-in-Call.ensures)
 
 pub number_expr-returns-in_ok-args-in-Primop : goal.number_expr-returns-in_ok-args-in-Primop
 number_expr-returns-in_ok-args-in-Primop _ c =

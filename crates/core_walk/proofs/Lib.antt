@@ -1,0 +1,4 @@
+pub mod BoundLemmas
+pub mod FirstLemmas
+pub mod NameCountLemmas
+pub mod WalkLemmas

@@ -1,0 +1,4 @@
+pub mod Bound
+pub mod First
+pub mod NameCounts
+pub mod Walk
