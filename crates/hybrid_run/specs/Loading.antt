@@ -1,6 +1,6 @@
 -- What the texts of the files are, where the sources tell them. This project's own.
-use Rattle.std.specs.Prelude.{◌≡◌, ℕ, List, [], ◌∷◌, take, slice_get, Option, Some}
-use Rattle.std.specs.List.{AllByRecursion}
+use Rattle.std.specs.Prelude.{◌≡◌, ℕ, List, take, slice_get, Option, Some}
+use Rattle.std.specs.List.{AllByRecursion, AllZip}
 use Rattle.hy_core.specs.Reading.{IsModuleText}
 use Rattle.hy_core.specs.Refusals.{IsRefusedText}
 use Rattle.hy_core.specs.declared.refusal.RefusalKind.{RefusalKind}
@@ -18,20 +18,17 @@ AreTold told files = AllByRecursion (λ file. (text : List ℕ) × (told file �
 abbrev pub IsRead : Told → List ℕ → Module → Type 0
 IsRead told file z = (text : List ℕ) × (told file ≡ Some text) × IsModuleText text z
 
--- the texts of the files are told, and are the modules of these trees
-abbrev pub AreRead : Told → List (List ℕ) → List Module → Type 0
-AreRead told [] [] = Unit {0}
-AreRead told (file ∷ files) (z ∷ zs) = IsRead told file z × AreRead told files zs
-AreRead told _ _ = ⊥
-
 -- the text of the file is the module of this tree, where it is told
 abbrev pub IsReadWhereTold : Told → List ℕ → Module → Type 0
 IsReadWhereTold told file z = (text : List ℕ) → told file ≡ Some text → IsModuleText text z
 
+-- the texts of the files are told, and are the modules of these trees
+abbrev pub AreRead : Told → List (List ℕ) → List Module → Type 0
+AreRead told files zs = AllZip (IsRead told) files zs
+
+-- those that are told are the modules of these trees
 abbrev pub AreReadWhereTold : Told → List (List ℕ) → List Module → Type 0
-AreReadWhereTold told [] [] = Unit {0}
-AreReadWhereTold told (file ∷ files) (z ∷ zs) = IsReadWhereTold told file z × AreReadWhereTold told files zs
-AreReadWhereTold told _ _ = ⊥
+AreReadWhereTold told files zs = AllZip (IsReadWhereTold told) files zs
 
 -- each of the files before the one at this place is a module
 abbrev pub AreModulesBefore : Told → List (List ℕ) → ℕ → Type 0

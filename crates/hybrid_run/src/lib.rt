@@ -9,6 +9,8 @@ mod fault;
 mod lint;
 #[cfg(test)]
 mod lint_tests;
+#[cfg(test)]
+mod linted_tests;
 mod load;
 mod output;
 mod run;
