@@ -2,6 +2,7 @@ pub mod Examples
 pub mod Labelled
 pub mod Naming
 pub mod Printed
+pub mod Range
 pub mod Term
 pub mod TermOrder
 pub mod TermText
