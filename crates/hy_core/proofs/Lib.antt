@@ -1,8 +1,12 @@
+pub mod Accepting
 pub mod AloneLemmas
 pub mod BuiltParts
+pub mod Comparing
 pub mod Forms
 pub mod MainLemmas
+pub mod Matching
 pub mod Meanings
+pub mod Ranges
 pub mod Resolving
 pub mod Rules
 pub mod Runs

@@ -6,6 +6,7 @@ pub mod BuiltInTable
 pub mod Built
 pub mod Bytes
 pub mod Canonical
+pub mod ComparisonLaws
 pub mod Computation
 pub mod Counting
 pub mod Evaluation
@@ -16,9 +17,11 @@ pub mod Expressions
 pub mod Faults
 pub mod FullRun
 pub mod Grammar
+pub mod Instance
 pub mod Machine
 pub mod Marks
 pub mod Match
+pub mod MatchLaws
 pub mod Meaning
 pub mod NameFaults
 pub mod NodeFaults
@@ -28,6 +31,7 @@ pub mod Numbering
 pub mod Output
 pub mod Patterns
 pub mod PreludeModules
+pub mod RangeLaws
 pub mod Reading
 pub mod Refusals
 pub mod Resolve

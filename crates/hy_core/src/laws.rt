@@ -4,5 +4,7 @@
 pub mod built_ins;
 /// The laws of evaluation, form by form, by the Core Erlang 1.0.3 report.
 pub mod evaluation;
+/// When patterns match and clauses hold.
+pub mod matching;
 /// Small programs, and what they do.
 pub mod runs;

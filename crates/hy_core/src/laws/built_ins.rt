@@ -1,3 +1,6 @@
+ghost use Rattle.std.specs.Prelude.{ℕ, List};
+ghost use Rattle.hy_terms.specs.Term.{Term};
+ghost use Rattle.hy_core.specs.ComparisonLaws.{ComparesByOrder};
 ghost use Rattle.hy_core.specs.BuiltInTable.{
   NumbersAreComputed,
   TruthsAreComputed,
@@ -6,6 +9,7 @@ ghost use Rattle.hy_core.specs.BuiltInTable.{
   TermsAreCompared,
   EqualIsSame,
 };
+ghost use Rattle.hy_core.specs.RangeLaws.{KeepToRange};
 
 /// Arithmetic, with the reasons `badarith`, `badarg` and `system_limit`.
 pub fn numbers_are_computed()
@@ -31,4 +35,15 @@ pub fn parts_are_found()
 pub fn terms_are_compared()
     ensures by_order { TermsAreCompared }
     ensures equal { EqualIsSame }
+{}
+
+/// Each comparison gives `'true'` exactly at the orders of its arguments that it names, and else
+/// `'false'`.
+pub fn comparisons_go_by_order()
+    ensures { (atoms : List (List ℕ)) (pid : ℕ) (t u : Term) → ComparesByOrder atoms pid t u }
+{}
+
+/// Where the arguments of a built-in keep to the range of numbers, so does its value.
+pub fn built_ins_keep_to_range()
+    ensures { (atoms : List (List ℕ)) (pid : ℕ) → KeepToRange atoms pid }
 {}
