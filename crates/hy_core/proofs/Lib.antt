@@ -10,6 +10,7 @@ pub mod Ranges
 pub mod Resolving
 pub mod Rules
 pub mod Runs
+pub mod SmallRuns
 pub mod Source
 pub mod Timing
 pub mod WorkedRuns

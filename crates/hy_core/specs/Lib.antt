@@ -38,8 +38,12 @@ pub mod Resolve
 pub mod ResolvedExample
 pub mod Resolved
 pub mod Sites
+pub mod SmallPrograms
 pub mod Source
 pub mod SubPatterns
 pub mod Tables
 pub mod Tokens
 pub mod Worked
+pub mod WorkedBuiltIns
+pub mod WorkedOutcomes
+pub mod WorkedPatterns

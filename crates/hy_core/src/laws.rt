@@ -6,5 +6,7 @@ pub mod built_ins;
 pub mod evaluation;
 /// When patterns match and clauses hold.
 pub mod matching;
+/// Each built-in, form of pattern and outcome in small programs.
+pub mod programs;
 /// Small programs, and what they do.
 pub mod runs;
