@@ -3,9 +3,11 @@ pub mod AloneLemmas
 pub mod BuiltParts
 pub mod Comparing
 pub mod Forms
+pub mod FullRuns
 pub mod MainLemmas
 pub mod Matching
 pub mod Meanings
+pub mod NoRuns
 pub mod Ranges
 pub mod Resolving
 pub mod Rules

@@ -1,15 +1,15 @@
 -- Built-ins keep to the range of numbers.
-use Rattle.std.proofs.Common.{◌≡◌, ◌&&◌, ◌||◌, ℕ, zero, suc, ◌≤◌, ◌-◌, ◌^◌, ℤ, pos, negsuc, ◌+ℤ◌, ◌-ℤ◌, ◌*ℤ◌, neg_ℤ, unsigned_abs, ◌≤ℤ◌, int_le, int_div, int_rem, Bool, true, false, not, if◌then◌else◌, List, [], ◌∷◌, Option, Some, None, refl, sym, ap, subst, arith}
+use Rattle.std.proofs.Common.{◌≡◌, ◌&&◌, ◌||◌, ℕ, zero, suc, ℤ, pos, ◌+ℤ◌, ◌-ℤ◌, ◌*ℤ◌, neg_ℤ, unsigned_abs, ◌≤ℤ◌, int_le, int_div, int_rem, Bool, true, false, not, if◌then◌else◌, List, [], ◌∷◌, Option, Some, None, refl, sym, ap, subst, arith}
 use Rattle.std.proofs.lemmas.Int.{ints}
 use Rattle.std.specs.Int.{int_bit_and, int_bit_or, int_bit_xor, w64}
 use Rattle.std.specs.Ordering.{int_eq}
-use Rattle.hy_terms.specs.Range.{IsTerm, AreTerms}
+use Rattle.hy_terms.specs.Range.{least_number, greatest_number, IsNumber, IsTerm, AreTerms}
 use Rattle.hy_terms.specs.Term.{Term, Int, Atom, Pid, Cons, Tuple, Terms, NoTerms, MoreTerms, terms_of, size_of}
 use Rattle.hy_terms.specs.TermOrder.{compare}
 use Rattle.hy_core.specs.declared.bif.Bif.{Bif}
 use Rattle.hy_core.specs.declared.bif.Bif.TheVariants as b
 use Rattle.hy_core.specs.BuiltIn.{Answer, Value, truth, in_range, system_limit, on_number, on_numbers, quotient, remainder, on_truths, on_truth, or_badarg, part_at, with_part, before_terms, option_terms, element, with_element, head_of, tail_of, length_of, or_no_length, size_answer, of_none, of_one, of_two, badarith, badarg, number, truth_value, is_number, is_atom, is_truth, is_pid, is_list, is_tuple, exclusive_or, is_less, is_equal, is_greater, answer}
-use Rattle.hy_core.specs.RangeLaws.{ElementsCanBeCounted, KeepToRange}
+use Rattle.hy_core.specs.RangeLaws.{IsCounted, KeepToRange}
 
 value_same : (t u : Term) → Value t ≡ Value u → t ≡ u
 value_same t u h = cc
@@ -26,16 +26,16 @@ truth_kept : (v : Bool) (u : Term) → Value (truth v) ≡ Value u → IsTerm u
 truth_kept true u e = kept (Atom 0) u tt e
 truth_kept false u e = kept (Atom 1) u tt e
 
-least_le : (n : ℤ) → int_le (negsuc 576460752303423487) n ≡ true → negsuc 576460752303423487 ≤ℤ n
+least_le : (n : ℤ) → int_le least_number n ≡ true → least_number ≤ℤ n
 least_le n h = grind (arith, ints)
 
-le_greatest : (n : ℤ) → int_le n (pos 576460752303423487) ≡ true → n ≤ℤ pos 576460752303423487
+le_greatest : (n : ℤ) → int_le n greatest_number ≡ true → n ≤ℤ greatest_number
 le_greatest n h = grind (arith, ints)
 
 in_range_kept : (n : ℤ) (u : Term) → in_range n ≡ Value u → IsTerm u
-in_range_kept n u e = by (int_le (negsuc 576460752303423487) n) (int_le n (pos 576460752303423487)) refl refl e
+in_range_kept n u e = by (int_le least_number n) (int_le n greatest_number) refl refl e
   where
-    by : (a c : Bool) → int_le (negsuc 576460752303423487) n ≡ a → int_le n (pos 576460752303423487) ≡ c → (if a && c then Value (Int n) else system_limit) ≡ Value u → IsTerm u
+    by : (a c : Bool) → int_le least_number n ≡ a → int_le n greatest_number ≡ c → (if a && c then Value (Int n) else system_limit) ≡ Value u → IsTerm u
     by true true p q h = kept (Int n) u (least_le n p, le_greatest n q) h
     by true false p q h = absurd cc
     by false c p q h = absurd cc
@@ -85,15 +85,12 @@ tail_kept : (t u : Term) → IsTerm t → tail_of t ≡ Some u → IsTerm u
 tail_kept (Cons h t) u k e = subst IsTerm (some_same t u e) k.1
 tail_kept t u k e = absurd cc
 
-count_kept : (n : ℕ) → n ≤ 2 ^ 59 - 1 → IsTerm (Int (pos n))
-count_kept n h = (omega (arith, ints), omega (arith, ints, h))
-
-length_kept : (o : Option ℕ) (u : Term) → ((n : ℕ) → o ≡ Some n → n ≤ 2 ^ 59 - 1) → or_no_length o ≡ Value u → IsTerm u
+length_kept : (o : Option ℕ) (u : Term) → ((n : ℕ) → o ≡ Some n → IsNumber (pos n)) → or_no_length o ≡ Value u → IsTerm u
 length_kept None u h e = absurd cc
-length_kept (Some n) u h e = kept (Int (pos n)) u (count_kept n (h n refl)) e
+length_kept (Some n) u h e = kept (Int (pos n)) u (h n refl) e
 
-size_kept : (t u : Term) → ElementsCanBeCounted b.TupleSize (t ∷ []) → size_answer t ≡ Value u → IsTerm u
-size_kept (Tuple ts) u h e = kept (Int (pos (size_of ts))) u (count_kept (size_of ts) h) e
+size_kept : (t u : Term) → IsCounted b.TupleSize (t ∷ []) → size_answer t ≡ Value u → IsTerm u
+size_kept (Tuple ts) u h e = kept (Int (pos (size_of ts))) u h e
 size_kept t u h e = absurd cc
 
 -- arguments
@@ -135,7 +132,7 @@ comparison_kept f ts u k e = two_kept (λ t v. Value (truth (f t v))) ts u k (λ
 lone : (ts : List Term) (t : Term) → ts ≡ t ∷ [] → AreTerms (terms_of ts) → IsTerm t
 lone ts t s k = (subst (λ us. AreTerms (terms_of us)) s k).0
 
-plain_kept : (atoms : List (List ℕ)) (pid : ℕ) (f : Bif) (ts : List Term) (t : Term) → AreTerms (terms_of ts) → ElementsCanBeCounted f ts → answer atoms pid f ts ≡ Value t → IsTerm t
+plain_kept : (atoms : List (List ℕ)) (pid : ℕ) (f : Bif) (ts : List Term) (t : Term) → AreTerms (terms_of ts) → IsCounted f ts → answer atoms pid f ts ≡ Value t → IsTerm t
 plain_kept atoms pid b.Add ts t k c e = ranged_kept (λ n m. n +ℤ m) ts t k e
 plain_kept atoms pid b.Sub ts t k c e = ranged_kept (λ n m. n -ℤ m) ts t k e
 plain_kept atoms pid b.Mul ts t k c e = ranged_kept (λ n m. n *ℤ m) ts t k e
@@ -157,7 +154,7 @@ plain_kept atoms pid b.IsBoolean ts t k c e = test_kept (λ v. is_truth (truth_v
 plain_kept atoms pid b.IsPid ts t k c e = test_kept is_pid ts t e
 plain_kept atoms pid b.IsList ts t k c e = test_kept is_list ts t e
 plain_kept atoms pid b.IsTuple ts t k c e = test_kept is_tuple ts t e
-plain_kept atoms pid b.TupleSize ts t k c e = one_kept size_answer ts t (λ v s h. size_kept v t (subst (ElementsCanBeCounted b.TupleSize) s c) h) e
+plain_kept atoms pid b.TupleSize ts t k c e = one_kept size_answer ts t (λ v s h. size_kept v t (subst (IsCounted b.TupleSize) s c) h) e
 plain_kept atoms pid b.Same ts t k c e = comparison_kept (λ v w. is_equal (compare atoms v w)) ts t k e
 plain_kept atoms pid b.Equal ts t k c e = comparison_kept (λ v w. is_equal (compare atoms v w)) ts t k e
 plain_kept atoms pid b.NotSame ts t k c e = comparison_kept (λ v w. not (is_equal (compare atoms v w))) ts t k e
@@ -169,7 +166,7 @@ plain_kept atoms pid b.AtLeast ts t k c e = comparison_kept (λ v w. not (is_les
 plain_kept atoms pid b.Element ts t k c e = two_kept (λ i v. or_badarg (element i v)) ts t k (λ i v p q h. element_kept i v t q (or_badarg_is (element i v) t h)) e
 plain_kept atoms pid b.Hd ts t k c e = one_kept (λ v. or_badarg (head_of v)) ts t (λ v s h. head_kept v t (lone ts v s k) (or_badarg_is (head_of v) t h)) e
 plain_kept atoms pid b.Tl ts t k c e = one_kept (λ v. or_badarg (tail_of v)) ts t (λ v s h. tail_kept v t (lone ts v s k) (or_badarg_is (tail_of v) t h)) e
-plain_kept atoms pid b.Length ts t k c e = one_kept (λ v. or_no_length (length_of v)) ts t (λ v s h. length_kept (length_of v) t (subst (ElementsCanBeCounted b.Length) s c) h) e
+plain_kept atoms pid b.Length ts t k c e = one_kept (λ v. or_no_length (length_of v)) ts t (λ v s h. length_kept (length_of v) t (subst (IsCounted b.Length) s c) h) e
 plain_kept atoms pid b.SelfPid ts t k c e = none_kept pid ts t e
 
 -- setelement

@@ -18,7 +18,7 @@ use Rattle.hy_core.specs.WorkedOutcomes.{exits, spawns, ExitOutcome, StopOutcome
 use Rattle.hy_core.specs.WorkedPatterns.{matched, variable_again, function_again, bound_around, PatternsMatch, InnermostBindings}
 use Rattle.hy_core.proofs.Source.{program_is, modules_read}
 
-abbrev read : Source → List FunctionTree
+abbrev pub read : Source → List FunctionTree
 read body = modules_read names 0 (modules body)
 
 -- a run of the program as it is read, whose main is function 0

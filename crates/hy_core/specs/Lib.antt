@@ -37,6 +37,7 @@ pub mod Refusals
 pub mod Resolve
 pub mod ResolvedExample
 pub mod Resolved
+pub mod RunLaws
 pub mod Sites
 pub mod SmallPrograms
 pub mod Source

@@ -15,7 +15,8 @@ use Rattle.hy_core.specs.Worked.{limit}
 abbrev pub texts : List (List ℕ)
 texts =
     own_atoms ++ codes "m" ∷ codes "main" ∷ codes "f" ∷ codes "child"
-    ∷ codes "erlang" ∷ codes "display" ∷ codes "self" ∷ codes "spawn" ∷ codes "send" ∷ codes "error" ∷ codes "exit"
+    ∷ codes "erlang" ∷ codes "display" ∷ codes "self" ∷ codes "spawn" ∷ codes "send"
+    ∷ codes "error" ∷ codes "exit" ∷ codes "infinity"
     ∷ codes "=:=" ∷ codes "==" ∷ codes "=/=" ∷ codes "/="
     ∷ codes "<" ∷ codes ">" ∷ codes "=<" ∷ codes ">="
     ∷ codes "and" ∷ codes "or" ∷ codes "xor" ∷ codes "not"

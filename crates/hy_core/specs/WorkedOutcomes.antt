@@ -30,7 +30,8 @@ pub record StopOutcomes : Type 0 where
 -- erlang:spawn('m', 'child', [1, 2])
 abbrev pub spawns : Source
 spawns =
-    erlang (codes "spawn") (atom (codes "m") ∷ atom (codes "child") ∷ list (int 1 ∷ int 2 ∷ []) ∷ [])
+    erlang (codes "spawn")
+    (atom (codes "m") ∷ atom (codes "child") ∷ list (int 1 ∷ int 2 ∷ []) ∷ [])
 
 -- the child begins with the arguments that the spawn has, and prints them
 abbrev pub ChildHasArguments : Type 0

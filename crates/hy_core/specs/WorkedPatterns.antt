@@ -30,11 +30,12 @@ matched =
     (tuple_clause (PVar 0 ∷ PVar 1 ∷ PVar 2 ∷ PVar 3 ∷ []) (atom (codes "long"))
     (tuple_clause (PVar 0 ∷ PVar 1 ∷ []) (atom (codes "short"))
     (tuple_clause (PVar 0 ∷ named_part ∷ PStr (codes "a") ∷ []) (atom (codes "prefix"))
-    (tuple_clause (PVar 0 ∷ named_part ∷ PStr (codes "ab") ∷ []) (tuple (SVar 4 ∷ SVar 5 ∷ SVar 6 ∷ []))
+    (tuple_clause (PVar 0 ∷ named_part ∷ PStr (codes "ab") ∷ [])
+    (tuple (SVar 4 ∷ SVar 5 ∷ SVar 6 ∷ []))
     NoC))))
 
--- a tuple matches with all its parts and a string with all its bytes; an alias names what its pattern
--- matches
+-- a tuple matches with all its parts and a string with all its bytes; an alias names what its
+-- pattern matches
 abbrev pub PatternsMatch : Type 0
 PatternsMatch = EndsWith matched (codes "{{2,[3,4|5]},3,[4|5]}")
 

@@ -4,6 +4,8 @@
 pub mod built_ins;
 /// The laws of evaluation, form by form, by the Core Erlang 1.0.3 report.
 pub mod evaluation;
+/// Where runs end.
+pub mod full_runs;
 /// When patterns match and clauses hold.
 pub mod matching;
 /// Each built-in, form of pattern and outcome in small programs.

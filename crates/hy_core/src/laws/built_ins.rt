@@ -43,7 +43,8 @@ pub fn comparisons_go_by_order()
     ensures { (atoms : List (List ℕ)) (pid : ℕ) (t u : Term) → ComparesByOrder atoms pid t u }
 {}
 
-/// Where the arguments of a built-in keep to the range of numbers, so does its value.
+/// Where the arguments of a built-in keep to the range of numbers, so does its value. Of `length` and
+/// `tuple_size` this is said where the length or the size is in the range.
 pub fn built_ins_keep_to_range()
     ensures { (atoms : List (List ℕ)) (pid : ℕ) → KeepToRange atoms pid }
 {}

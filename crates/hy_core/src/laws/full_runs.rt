@@ -1,0 +1,22 @@
+ghost use Rattle.std.specs.Prelude.{ℕ, List};
+ghost use Rattle.hy_core.specs.Resolved.{FunctionTree};
+ghost use Rattle.hy_core.specs.RunLaws.{FullRunsAreLast, AreNotAllowed, AreNotFull};
+
+/// A run that is full with no process stopped allows no further step, and its steps determine how each
+/// process ends and what is written.
+pub fn full_runs_are_last()
+    ensures { (program : List FunctionTree) (atoms : List (List ℕ)) (calls main : ℕ) →
+        FullRunsAreLast program atoms calls main }
+{}
+
+/// No run has an event at a later place than the next, takes or lapses while an event is left, tells
+/// another number of events at a lapse, takes a message twice, or lapses without a timeout.
+pub fn more_steps_are_no_run()
+    ensures { AreNotAllowed }
+{}
+
+/// No run is full where an event is left, a text is another, a timeout is 0, a message is accepted, or a
+/// process is left out.
+pub fn some_runs_are_not_full()
+    ensures { AreNotFull }
+{}
