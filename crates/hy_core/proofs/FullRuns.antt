@@ -18,7 +18,7 @@ use Rattle.hy_core.specs.Output.{run_output}
 use Rattle.hy_core.specs.Resolved.{FunctionTree}
 use Rattle.hy_core.specs.RunLaws.{FullRunsAreLast}
 
-pub some_same : {A : Type 0} (x y : A) → Some x ≡ Some y → x ≡ y
+some_same : {A : Type 0} (x y : A) → Some x ≡ Some y → x ≡ y
 some_same x y h = cc
 
 module _ {V W : Type 0} (behaviour : Behaviour V W) where

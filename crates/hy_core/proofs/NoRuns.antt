@@ -17,7 +17,6 @@ use Rattle.hy_core.specs.SmallPrograms.{texts, names, modules, number_of, atom, 
 use Rattle.hy_core.specs.Source.{Source}
 use Rattle.hy_core.specs.Worked.{limit, event, took, lapsed}
 use Rattle.hy_core.specs.WorkedOutcomes.{spawns}
-use Rattle.hy_core.proofs.FullRuns.{some_same}
 use Rattle.hy_core.proofs.SmallRuns.{read}
 use Rattle.hy_core.proofs.Source.{program_is}
 
@@ -39,10 +38,13 @@ AllAt body c ends = AreAt (behaviour_of (read body) texts limit) NeverStopped c.
 
 no_end : (body : Source) (steps : List Step) (ends : List End) (output : List ℕ) (last : Configuration Term) → after_run (read body) texts limit 0 steps ≡ Some last → (AllAt body last ends → ⊥) → Writes body steps ends output → ⊥
 no_end body steps ends output last h n w =
-    let main_is : 0 ≡ w.main = some_same 0 w.main w.is_main in
+    let found : Some 0 ≡ Some w.main = w.is_main in
+    let main_is : 0 ≡ w.main = cc in
     let run = subst (λ p. IsFullRun p texts limit NeverStopped w.main steps ends output) (program_is names (modules body)) w.run in
     let run_of_main = subst (λ m. IsFullRun (read body) texts limit NeverStopped m steps ends output) (sym main_is) run in
-    n (subst (λ c. AllAt body c ends) (some_same run_of_main.full.last last (sym run_of_main.full.allowed ∙ h)) run_of_main.full.at_ends)
+    let reached : Some run_of_main.full.last ≡ Some last = sym run_of_main.full.allowed ∙ h in
+    let last_is : run_of_main.full.last ≡ last = cc in
+    n (subst (λ c. AllAt body c ends) last_is run_of_main.full.at_ends)
 
 -- what the end of a process waits for
 
