@@ -1,8 +1,4 @@
-pub mod AloneLemmas
-pub mod BuiltParts
 pub mod Forms
-pub mod MainLemmas
-pub mod Meanings
 pub mod Resolving
 pub mod Rules
 pub mod Runs

@@ -1,9 +1,7 @@
 pub use Rattle.hy_terms.specs.Naming
-pub mod Alone
 pub mod Annotations
 pub mod BuiltIn
 pub mod BuiltInTable
-pub mod Built
 pub mod Bytes
 pub mod Canonical
 pub mod Computation
@@ -19,7 +17,6 @@ pub mod Grammar
 pub mod Machine
 pub mod Marks
 pub mod Match
-pub mod Meaning
 pub mod NameFaults
 pub mod NodeFaults
 pub mod Nodes
