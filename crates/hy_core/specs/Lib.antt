@@ -33,6 +33,7 @@ pub mod Resolved
 pub mod Sites
 pub mod Source
 pub mod SubPatterns
+pub mod Syntax
 pub mod Tables
 pub mod Tokens
 pub mod Worked

@@ -6,3 +6,5 @@ pub mod built_ins;
 pub mod evaluation;
 /// Small programs, and what they do.
 pub mod runs;
+/// Trees as definitions compute with them.
+pub mod trees;
