@@ -1,12 +1,8 @@
 pub mod Accepting
-pub mod AloneLemmas
-pub mod BuiltParts
 pub mod Comparing
 pub mod Forms
 pub mod FullRuns
-pub mod MainLemmas
 pub mod Matching
-pub mod Meanings
 pub mod NoRuns
 pub mod Ranges
 pub mod Resolving
@@ -14,5 +10,6 @@ pub mod Rules
 pub mod Runs
 pub mod SmallRuns
 pub mod Source
+pub mod SyntaxLemmas
 pub mod Timing
 pub mod WorkedRuns

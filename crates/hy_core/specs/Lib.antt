@@ -1,9 +1,7 @@
 pub use Rattle.hy_terms.specs.Naming
-pub mod Alone
 pub mod Annotations
 pub mod BuiltIn
 pub mod BuiltInTable
-pub mod Built
 pub mod Bytes
 pub mod Canonical
 pub mod ComparisonLaws
@@ -22,7 +20,6 @@ pub mod Machine
 pub mod Marks
 pub mod Match
 pub mod MatchLaws
-pub mod Meaning
 pub mod NameFaults
 pub mod NodeFaults
 pub mod Nodes
@@ -42,6 +39,7 @@ pub mod Sites
 pub mod SmallPrograms
 pub mod Source
 pub mod SubPatterns
+pub mod Syntax
 pub mod Tables
 pub mod Tokens
 pub mod Worked

@@ -12,3 +12,5 @@ pub mod matching;
 pub mod programs;
 /// Small programs, and what they do.
 pub mod runs;
+/// Trees as definitions compute with them.
+pub mod trees;
