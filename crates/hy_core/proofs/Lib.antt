@@ -1,4 +1,5 @@
 pub mod Accepting
+pub mod Arities
 pub mod Comparing
 pub mod Forms
 pub mod FullRuns

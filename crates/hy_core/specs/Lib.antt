@@ -1,5 +1,6 @@
 pub use Rattle.hy_terms.specs.Naming
 pub mod Annotations
+pub mod ArgumentLaws
 pub mod BuiltIn
 pub mod BuiltInTable
 pub mod Bytes

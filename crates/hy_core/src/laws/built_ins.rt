@@ -1,5 +1,6 @@
 ghost use Rattle.std.specs.Prelude.{ℕ, List};
 ghost use Rattle.hy_terms.specs.Term.{Term};
+ghost use Rattle.hy_core.specs.ArgumentLaws.{AnswersItsArguments};
 ghost use Rattle.hy_core.specs.ComparisonLaws.{ComparesByOrder};
 ghost use Rattle.hy_core.specs.BuiltInTable.{
   NumbersAreComputed,
@@ -47,4 +48,10 @@ pub fn comparisons_go_by_order()
 /// `tuple_size` this is said where the length or the size is in the range.
 pub fn built_ins_keep_to_range()
     ensures { (atoms : List (List ℕ)) (pid : ℕ) → KeepToRange atoms pid }
+{}
+
+/// A call that is resolved as a built-in has an answer. With another number of arguments than its name
+/// is looked up with, a built-in has none.
+pub fn built_ins_answer_their_arguments()
+    ensures { (atoms : List (List ℕ)) (pid : ℕ) → AnswersItsArguments atoms pid }
 {}
