@@ -1,8 +1,10 @@
+pub mod EventNodes
 pub mod Forms
-pub mod Resolving
+pub mod NodesLemmas
+pub mod PatternsLemmas
 pub mod Rules
 pub mod Runs
-pub mod Source
 pub mod SyntaxLemmas
 pub mod Timing
 pub mod WorkedRuns
+pub mod Written
