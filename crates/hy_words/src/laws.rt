@@ -1,5 +1,7 @@
 //! Laws of what words stand for. These functions only carry them.
-ghost use Rattle.hy_words.specs.Laws.{GrowingKeepsTerms, OneWordOneTerm, AreaKeepsTerms, WordsStandForLabelled};
+ghost use Rattle.hy_words.specs.Laws.{GrowingKeepsTerms, OneWordOneTerm, AreaKeepsTerms, WordsStandForLabelled, WiderKindIsNamed, GrowingKeepsNames};
+
+use crate::cell_kind::CellKind;
 
 /// What a word stands for stays, whatever is appended to the heap and written into the area.
 pub fn growing_keeps_terms()
@@ -19,4 +21,14 @@ pub fn area_keeps_terms()
 /// No shared node of what a word stands for has a private child.
 pub fn words_stand_for_labelled()
     ensures { WordsStandForLabelled }
+{}
+
+/// What names only cells of one kind names only cells of a wider kind.
+pub fn wider_kind_is_named<K: CellKind, W: CellKind>()
+    ensures { WiderKindIsNamed K.is_cell W.is_cell }
+{}
+
+/// A larger heap names no further cell.
+pub fn growing_keeps_names<K: CellKind>()
+    ensures { GrowingKeepsNames K.is_cell }
 {}
