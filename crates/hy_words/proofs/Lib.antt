@@ -1,3 +1,4 @@
+pub mod HeightLemmas
 pub mod Naming
 pub mod Numbers
 pub mod Standing

@@ -1,9 +1,9 @@
 -- The area words in a process's hands: they name cells of any wider kind too, and stay as the heap grows.
-use Rattle.std.proofs.Common.{◌≡◌, ◌≢◌, ℕ, ℤ, ◌+◌, List, [], ◌∷◌, sym, subst, arith}
+use Rattle.std.proofs.Common.{◌≡◌, ℕ, ◌+◌, List, [], ◌∷◌, sym, subst, arith}
 use Rattle.std.specs.Prelude.{slice_index}
 use native.Mathlib.Decide.{ℕ_discrete}
 use mathlib.Core.Logic.{dite}
-use Rattle.hy_terms.specs.Labelled.{Labelled, labels_of}
+use Rattle.hy_terms.specs.Labelled.{Labelled}
 use Rattle.hy_words.specs.Lists.{Grown}
 use Rattle.hy_words.specs.Names.{NamesOnly, PartsName, in_int, in_atom, in_pid, in_nil, in_shared_cons, in_shared_tuple, in_private_cons, in_private_tuple, no_names, more_names}
 

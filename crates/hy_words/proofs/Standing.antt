@@ -26,10 +26,10 @@ words_grow : (colour : Colour) (heap area heap' area' : List ℕ) → Grown heap
 words_grow Private heap area heap' area' f g = f
 words_grow Shared heap area heap' area' f g = g
 
-cons_header_some : (site : ℕ) → cons_header_of site ≢ 0
+pub cons_header_some : (site : ℕ) → cons_header_of site ≢ 0
 cons_header_some site e = omega arith
 
-tuple_header_some : (size site : ℕ) → tuple_header_of size site ≢ 0
+pub tuple_header_some : (size site : ℕ) → tuple_header_of size site ≢ 0
 tuple_header_some size site e = omega arith
 
 -- a larger heap and a larger area stand for the same

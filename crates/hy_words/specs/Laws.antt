@@ -1,8 +1,9 @@
 -- Laws of what words stand for.
-use Rattle.std.specs.Prelude.{◌≡◌, ◌≢◌, ℕ, List}
+use Rattle.std.specs.Prelude.{◌≡◌, ◌≢◌, ℕ, ◌+◌, ◌≤◌, List, length}
 use Rattle.hy_terms.specs.Labelled.{Labelled, IsLabelled}
 use Rattle.hy_words.specs.Lists.{Grown}
 use Rattle.hy_words.specs.Words.{tag_of, private_tag}
+use Rattle.hy_words.specs.Heights.{height}
 use Rattle.hy_words.specs.Stands.{Stands}
 use Rattle.hy_words.specs.Names.{NamesOnly}
 
@@ -33,3 +34,9 @@ abbrev pub GrowingKeepsNames : (IsCell : ℕ → Type 0) → Type 0
 GrowingKeepsNames IsCell =
     (heap more_heap : List ℕ) (t : Labelled) (w : ℕ) → Grown heap more_heap
     → NamesOnly heap IsCell t w → NamesOnly more_heap IsCell t w
+
+-- a term is no higher than one more than the number of places
+abbrev pub TermsAreLow : Type 0
+TermsAreLow =
+    (heap area : List ℕ) (t : Labelled) (w : ℕ) → Stands heap area t w
+    → height t ≤ 1 + length heap + length area

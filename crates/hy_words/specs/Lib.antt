@@ -3,4 +3,5 @@ pub mod Words
 pub mod Heaps
 pub mod Stands
 pub mod Names
+pub mod Heights
 pub mod Laws

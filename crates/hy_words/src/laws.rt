@@ -1,5 +1,5 @@
 //! Laws of what words stand for. These functions only carry them.
-ghost use Rattle.hy_words.specs.Laws.{GrowingKeepsTerms, OneWordOneTerm, AreaKeepsTerms, WordsStandForLabelled, WiderKindIsNamed, GrowingKeepsNames};
+ghost use Rattle.hy_words.specs.Laws.{GrowingKeepsTerms, OneWordOneTerm, AreaKeepsTerms, WordsStandForLabelled, TermsAreLow, WiderKindIsNamed, GrowingKeepsNames};
 
 use crate::cell_kind::CellKind;
 
@@ -21,6 +21,11 @@ pub fn area_keeps_terms()
 /// No shared node of what a word stands for has a private child.
 pub fn words_stand_for_labelled()
     ensures { WordsStandForLabelled }
+{}
+
+/// What a word stands for is no higher than one more than the places of the heap and the area.
+pub fn terms_are_low()
+    ensures { TermsAreLow }
 {}
 
 /// What names only cells of one kind names only cells of a wider kind.

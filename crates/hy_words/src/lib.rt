@@ -15,7 +15,7 @@ pub use cell_kind::CellKind;
 pub use heap::{Heap, HeapFault};
 pub use kind::{Entry, Kind};
 pub use laws::{
-    area_keeps_terms, growing_keeps_names, growing_keeps_terms, one_word_one_term,
+    area_keeps_terms, growing_keeps_names, growing_keeps_terms, one_word_one_term, terms_are_low,
     wider_kind_is_named, words_stand_for_labelled,
 };
 pub use word_list::WordList;
