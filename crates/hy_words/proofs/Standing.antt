@@ -82,6 +82,20 @@ stands_nil heap area t w (of_cons colour site place head tail r h q) e = not_cel
 stands_nil heap area t w (of_tuple colour site place parts r o h q) e = not_cell colour place (omega arith)
 stands_nil heap area t w _ e = absurd (omega arith)
 
+-- a number, an atom, a pid or nil
+abbrev IsLeaf : Labelled → Type 0
+IsLeaf (l.Cons site colour head tail) = ⊥
+IsLeaf (l.Tuple site colour parts) = ⊥
+IsLeaf _ = Unit {0}
+
+pub leaf_low : (heap area : List ℕ) (t : Labelled) (w : ℕ) → Stands heap area t w → IsLeaf t → tag_of w < private_tag
+leaf_low heap area t w (of_int n r) leaf = omega arith
+leaf_low heap area t w (of_atom a r) leaf = omega arith
+leaf_low heap area t w (of_pid p r) leaf = omega arith
+leaf_low heap area t w of_nil leaf = omega arith
+leaf_low heap area t w (of_cons colour site place head tail r h q) leaf = absurd leaf
+leaf_low heap area t w (of_tuple colour site place parts r o h q) leaf = absurd leaf
+
 -- the node that a cell of this colour at this place tells
 pub data IsNode (heap area : List ℕ) (colour : Colour) (place : ℕ) : Labelled → Type 0 where
   a_cons : (site : ℕ) (head tail : Labelled) → site < 2 ^ 28 → slice_index (words_of colour heap area) place ≡ cons_header_of site → PartsStand heap area colour (place + 1) (head ∷ tail ∷ []) → IsNode heap area colour place (l.Cons site colour head tail)

@@ -1,5 +1,5 @@
 -- How high labelled terms are. The project's own.
-use Rattle.std.specs.Prelude.{ℕ, ◌+◌, max}
+use Rattle.std.specs.Prelude.{ℕ, ◌+◌, max, List, [], ◌∷◌}
 use Rattle.hy_terms.specs.Labelled.{Labelled, Cons, Tuple, Labels, NoLabels, MoreLabels}
 
 abbrev mutual
@@ -12,3 +12,8 @@ abbrev mutual
   pub greatest_height : Labels → ℕ
   greatest_height NoLabels = 0
   greatest_height (MoreLabels t ts) = max (height t) (greatest_height ts)
+
+-- the greatest of some numbers, 0 where there is none
+abbrev pub greatest_of : List ℕ → ℕ
+greatest_of [] = 0
+greatest_of (n ∷ ns) = max n (greatest_of ns)

@@ -77,5 +77,6 @@ impl CellKind for EachPlace {
 #[test]
 fn laws_hold_of_a_kind_of_cells(_rt: HostRuntime) {
     growing_keeps_names::<EachPlace>();
+    words_that_name::<EachPlace>();
     wider_kind_is_named::<EachPlace, EachPlace>();
 }
