@@ -14,14 +14,14 @@ use Rattle.hy_core.specs.Machine.{Configuration, Message, AreAt, first_accepted}
 use Rattle.hy_core.specs.Resolved.{Timeout, AtOnce, Never}
 use Rattle.hy_core.specs.RunLaws.{after, waits, sends_and_waits, sends_twice, waits_twice, polls, sends_and_polls, displays, AreNotAllowed, AreNotFull}
 use Rattle.hy_core.specs.SmallPrograms.{texts, names, modules, number_of, atom, Writes}
-use Rattle.hy_core.specs.Source.{Source}
+use Rattle.hy_core.specs.Syntax.{Syntax}
 use Rattle.hy_core.specs.Worked.{limit, event, took, lapsed}
 use Rattle.hy_core.specs.WorkedOutcomes.{spawns}
 use Rattle.hy_core.proofs.SmallRuns.{read}
-use Rattle.hy_core.proofs.Source.{program_is}
+use Rattle.hy_core.proofs.Written.{program_is}
 
-as_read : (body : Source) (steps : List Step) → after body steps ≡ after_run (read body) texts limit 0 steps
-as_read body steps = ap (λ p. after_run p texts limit 0 steps) (program_is names (modules body))
+as_read : (body : Syntax) (steps : List Step) → after body steps ≡ after_run (read body) texts limit 0 steps
+as_read body steps = ap (λ p. after_run p texts limit 0 steps) (program_is names [] (modules body))
 
 pub are_not_allowed : AreNotAllowed
 are_not_allowed = record {
@@ -33,14 +33,14 @@ are_not_allowed = record {
   lapse_at_infinity = as_read waits (lapsed 0 0 ∷ []);
 }
 
-abbrev AllAt : Source → Configuration Term → List End → Type 0
+abbrev AllAt : Syntax → Configuration Term → List End → Type 0
 AllAt body c ends = AreAt (behaviour_of (read body) texts limit) NeverStopped c.processes ends
 
-no_end : (body : Source) (steps : List Step) (ends : List End) (output : List ℕ) (last : Configuration Term) → after_run (read body) texts limit 0 steps ≡ Some last → (AllAt body last ends → ⊥) → Writes body steps ends output → ⊥
+no_end : (body : Syntax) (steps : List Step) (ends : List End) (output : List ℕ) (last : Configuration Term) → after_run (read body) texts limit 0 steps ≡ Some last → (AllAt body last ends → ⊥) → Writes body steps ends output → ⊥
 no_end body steps ends output last h n w =
     let found : Some 0 ≡ Some w.main = w.is_main in
     let main_is : 0 ≡ w.main = cc in
-    let run = subst (λ p. IsFullRun p texts limit NeverStopped w.main steps ends output) (program_is names (modules body)) w.run in
+    let run = subst (λ p. IsFullRun p texts limit NeverStopped w.main steps ends output) (program_is names [] (modules body)) w.run in
     let run_of_main = subst (λ m. IsFullRun (read body) texts limit NeverStopped m steps ends output) (sym main_is) run in
     let reached : Some run_of_main.full.last ≡ Some last = sym run_of_main.full.allowed ∙ h in
     let last_is : run_of_main.full.last ≡ last = cc in

@@ -11,23 +11,23 @@ use Rattle.hy_core.specs.Computation.{ended, Values}
 use Rattle.hy_core.specs.FullRun.{NeverStopped, IsFullRun, runs_of}
 use Rattle.hy_core.specs.Resolved.{FunctionTree}
 use Rattle.hy_core.specs.SmallPrograms.{texts, names, modules, number_of, line, Writes, EndsWith}
-use Rattle.hy_core.specs.Source.{Source}
+use Rattle.hy_core.specs.Syntax.{Syntax}
 use Rattle.hy_core.specs.Worked.{limit}
 use Rattle.hy_core.specs.WorkedBuiltIns.{compared, of_two_truths, of_each_truth, of_each_kind, other_names, sends, errs, EachComparison, TruthTables, EachKindOfEach, EachNameOnce}
 use Rattle.hy_core.specs.WorkedOutcomes.{exits, spawns, ExitOutcome, StopOutcomes, ChildHasArguments}
 use Rattle.hy_core.specs.WorkedPatterns.{matched, variable_again, function_again, bound_around, PatternsMatch, InnermostBindings}
-use Rattle.hy_core.proofs.Source.{program_is, modules_read}
+use Rattle.hy_core.proofs.Written.{program_is, modules_written}
 
-abbrev pub read : Source → List FunctionTree
-read body = modules_read names 0 (modules body)
+abbrev pub read : Syntax → List FunctionTree
+read body = modules_written names [] (modules body)
 
 -- a run of the program as it is read, whose main is function 0
-as_read : (body : Source) (steps : List Step) (ends : List End) (output : List ℕ) → IsFullRun (read body) texts limit NeverStopped 0 steps ends output → Writes body steps ends output
+as_read : (body : Syntax) (steps : List Step) (ends : List End) (output : List ℕ) → IsFullRun (read body) texts limit NeverStopped 0 steps ends output → Writes body steps ends output
 as_read body steps ends output h =
-    record { main = 0; is_main = refl; run = subst (λ p. IsFullRun p texts limit NeverStopped 0 steps ends output) (sym (program_is names (modules body))) h }
+    record { main = 0; is_main = refl; run = subst (λ p. IsFullRun p texts limit NeverStopped 0 steps ends output) (sym (program_is names [] (modules body))) h }
 
 -- main's process as it ends, where it does nothing else
-gives : (body : Source) (value : Term) (calls : ℕ) → runs_of (read body) texts limit 0 0 [] [] ≡ ended calls [] (Values (value ∷ [])) → EndsWith body (term_text texts value)
+gives : (body : Syntax) (value : Term) (calls : ℕ) → runs_of (read body) texts limit 0 0 [] [] ≡ ended calls [] (Values (value ∷ [])) → EndsWith body (term_text texts value)
 unfolding digits
 gives body value calls h =
     let text = term_text texts value in

@@ -6,10 +6,12 @@ use Rattle.hy_core.specs.declared.end.End.TheVariants.{Ended, Waits}
 use Rattle.hy_core.specs.declared.step.Step.{Step}
 use Rattle.hy_core.specs.FullRun.{NeverStopped, IsFullRun, after_run}
 use Rattle.hy_core.specs.Machine.{Configuration}
-use Rattle.hy_core.specs.Resolve.{function_trees}
+use Rattle.hy_core.specs.ProgramTrees.{function_trees}
 use Rattle.hy_core.specs.Resolved.{FunctionTree}
 use Rattle.hy_core.specs.SmallPrograms.{texts, names, modules, atom, int, erlang, Writes}
-use Rattle.hy_core.specs.Source.{PVar, NoP, MoreP, Source, SVar, SDo, SReceive, NoC, MoreC, module_trees}
+use Rattle.hy_core.specs.Syntax as syntax
+use Rattle.hy_core.specs.Syntax.{Syntax, module_trees}
+use Rattle.hy_core.specs.Resolved.{AnyTerm, NoPatterns, MorePatterns}
 use Rattle.hy_core.specs.Worked.{limit, event, took, lapsed}
 use Rattle.hy_core.specs.WorkedOutcomes.{spawns}
 
@@ -30,37 +32,37 @@ module _ (program : List FunctionTree) (atoms : List (List ℕ)) (calls main : �
 
 -- what is no run
 
-abbrev pub after : Source → List Step → Option (Configuration Term)
+abbrev pub after : Syntax → List Step → Option (Configuration Term)
 after body steps =
-    after_run (function_trees names (module_trees (modules body))) texts limit 0 steps
+    after_run (function_trees names [] (module_trees (modules body))) texts limit 0 steps
 
 -- do erlang:send(erlang:self(), 1) S
-abbrev sends_to_itself : Source → Source
-sends_to_itself s = SDo (erlang (codes "send") (erlang (codes "self") [] ∷ int 1 ∷ [])) s
+abbrev sends_to_itself : Syntax → Syntax
+sends_to_itself s = syntax.Do (erlang (codes "send") (erlang (codes "self") [] ∷ int 1 ∷ [])) s
 
 -- receive <X> -> X after T -> 'false'
-abbrev receive_any : Source → Source
+abbrev receive_any : Syntax → Syntax
 receive_any timeout =
-    SReceive (MoreC (MoreP (PVar 0) NoP) (atom (codes "true")) (SVar 0) NoC) timeout
+    syntax.Receive (syntax.MoreClauses (MorePatterns (AnyTerm 0) NoPatterns) (atom (codes "true")) (syntax.Var 0) syntax.NoClauses) timeout
     (atom (codes "false"))
 
-abbrev pub waits : Source
+abbrev pub waits : Syntax
 waits = receive_any (atom (codes "infinity"))
 
-abbrev pub sends_and_waits : Source
+abbrev pub sends_and_waits : Syntax
 sends_and_waits = sends_to_itself waits
 
-abbrev pub sends_twice : Source
+abbrev pub sends_twice : Syntax
 sends_twice = sends_to_itself sends_and_waits
 
-abbrev pub waits_twice : Source
-waits_twice = sends_to_itself (SDo waits waits)
+abbrev pub waits_twice : Syntax
+waits_twice = sends_to_itself (syntax.Do waits waits)
 
 -- receive after 0 -> 'a'
-abbrev pub polls : Source
-polls = SReceive NoC (int 0) (atom (codes "a"))
+abbrev pub polls : Syntax
+polls = syntax.Receive syntax.NoClauses (int 0) (atom (codes "a"))
 
-abbrev pub sends_and_polls : Source
+abbrev pub sends_and_polls : Syntax
 sends_and_polls = sends_to_itself polls
 
 pub record AreNotAllowed : Type 0 where
@@ -73,12 +75,12 @@ pub record AreNotAllowed : Type 0 where
 
 -- what is no full run, whatever is written
 
-abbrev NoEnd : Source → List Step → List End → Type 0
+abbrev NoEnd : Syntax → List Step → List End → Type 0
 NoEnd body steps ends = (output : List ℕ) → Writes body steps ends output → ⊥
 
 -- do erlang:display(1) 'a'
-abbrev pub displays : Source
-displays = SDo (erlang (codes "display") (int 1 ∷ [])) (atom (codes "a"))
+abbrev pub displays : Syntax
+displays = syntax.Do (erlang (codes "display") (int 1 ∷ [])) (atom (codes "a"))
 
 pub record AreNotFull : Type 0 where
   pub event_left : NoEnd displays [] (Ended (codes "'a'") ∷ [])

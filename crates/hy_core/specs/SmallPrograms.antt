@@ -9,7 +9,8 @@ use Rattle.hy_core.specs.declared.tree.FunName.{FunName}
 use Rattle.hy_core.specs.BuiltIn.{own_atoms}
 use Rattle.hy_core.specs.FullRun.{NeverStopped, IsRunOf}
 use Rattle.hy_core.specs.Resolve.{Names}
-use Rattle.hy_core.specs.Source.{Source, SInt, SAtom, SNil, SVar, STuple, SList, SCall, Sources, NoS, MoreS, MoreF, NoF, SourceModule, module_trees}
+use Rattle.hy_core.specs.Syntax as syntax
+use Rattle.hy_core.specs.Syntax.{Syntax, Syntaxes, NoSyntax, MoreSyntax, NoDefinitions, MoreDefinitions, ModuleSyntax, module_trees}
 use Rattle.hy_core.specs.Worked.{limit}
 
 abbrev pub texts : List (List ℕ)
@@ -32,25 +33,25 @@ texts =
 abbrev pub number_of : List ℕ → ℕ
 number_of text = unwrap_or (place_in texts text) 0
 
-abbrev pub atom : List ℕ → Source
-atom text = SAtom (number_of text)
+abbrev pub atom : List ℕ → Syntax
+atom text = syntax.Atom (number_of text)
 
-abbrev pub int : ℕ → Source
-int n = SInt (pos n)
+abbrev pub int : ℕ → Syntax
+int n = syntax.Int (pos n)
 
-abbrev pub sources : List Source → Sources
-sources [] = NoS
-sources (s ∷ ss) = MoreS s (sources ss)
+abbrev pub syntaxes : List Syntax → Syntaxes
+syntaxes [] = NoSyntax
+syntaxes (s ∷ ss) = MoreSyntax s (syntaxes ss)
 
-abbrev pub tuple : List Source → Source
-tuple ss = STuple (sources ss)
+abbrev pub tuple : List Syntax → Syntax
+tuple ss = syntax.Tuple 0 (syntaxes ss)
 
-abbrev pub list : List Source → Source
-list ss = SList (sources ss) SNil
+abbrev pub list : List Syntax → Syntax
+list ss = syntax.ListOf 0 (syntaxes ss) syntax.Nil
 
 -- a call of the module 'erlang'
-abbrev pub erlang : List ℕ → List Source → Source
-erlang name arguments = SCall (atom (codes "erlang")) (atom name) (sources arguments)
+abbrev pub erlang : List ℕ → List Syntax → Syntax
+erlang name arguments = syntax.Call (atom (codes "erlang")) (atom name) (syntaxes arguments)
 
 abbrev pub function : List ℕ → ℕ → FunName
 function name arity = record { name = number_of name; arity = arity }
@@ -71,15 +72,15 @@ abbrev pub names : Names
 names = record { atoms = texts; functions = of_module main ∷ of_module f ∷ of_module child ∷ [] }
 
 -- the module with this body of 'main'/0; 'f'/1 gives 'module', and 'child'/2 prints its arguments
-abbrev pub modules : Source → List SourceModule
+abbrev pub modules : Syntax → List ModuleSyntax
 modules body =
     record {
       name = number_of (codes "m");
       functions =
-          MoreF main [] body
-          (MoreF f (0 ∷ []) (atom (codes "module"))
-          (MoreF child (0 ∷ 1 ∷ []) (erlang (codes "display") (tuple (SVar 0 ∷ SVar 1 ∷ []) ∷ []))
-          NoF));
+          MoreDefinitions main [] body
+          (MoreDefinitions f (0 ∷ []) (atom (codes "module"))
+          (MoreDefinitions child (0 ∷ 1 ∷ []) (erlang (codes "display") (tuple (syntax.Var 0 ∷ syntax.Var 1 ∷ []) ∷ []))
+          NoDefinitions));
     }
     ∷ []
 
@@ -87,10 +88,10 @@ abbrev pub line : List ℕ → List ℕ
 line text = text ++ 10 ∷ []
 
 -- the program whose main has this body runs by these steps to these ends, and writes this
-abbrev pub Writes : Source → List Step → List End → List ℕ → Type 0
+abbrev pub Writes : Syntax → List Step → List End → List ℕ → Type 0
 Writes body steps ends output =
-    IsRunOf names (module_trees (modules body)) limit NeverStopped steps ends output
+    IsRunOf names [] (module_trees (modules body)) limit NeverStopped steps ends output
 
 -- main ends at once with a value of this text
-abbrev pub EndsWith : Source → List ℕ → Type 0
+abbrev pub EndsWith : Syntax → List ℕ → Type 0
 EndsWith body text = Writes body [] (Ended text ∷ []) (line (codes "0 ended " ++ text))

@@ -2,16 +2,17 @@
 use Rattle.std.specs.Prelude.{ℕ, List, [], ◌∷◌, map, codes, negsuc}
 use Rattle.hy_core.specs.declared.class.Class.TheVariants.{Error}
 use Rattle.hy_core.specs.declared.end.End.TheVariants.{Ended, Raised}
-use Rattle.hy_core.specs.SmallPrograms.{atom, int, sources, tuple, list, erlang, line, Writes, EndsWith}
-use Rattle.hy_core.specs.Source.{Source, SInt, SNil, SList}
+use Rattle.hy_core.specs.SmallPrograms.{atom, int, syntaxes, tuple, list, erlang, line, Writes, EndsWith}
+use Rattle.hy_core.specs.Syntax as syntax
+use Rattle.hy_core.specs.Syntax.{Syntax}
 use Rattle.hy_core.specs.Worked.{event}
 
 -- the tuple of what a built-in gives for each of these arguments
-abbrev each_of : List ℕ → List (List Source) → Source
+abbrev each_of : List ℕ → List (List Syntax) → Syntax
 each_of name arguments = tuple (map (erlang name) arguments)
 
 -- at the first less, both equal, and the first greater
-abbrev pub compared : List ℕ → Source
+abbrev pub compared : List ℕ → Syntax
 compared name =
     each_of name ((int 1 ∷ int 2 ∷ []) ∷ (int 2 ∷ int 2 ∷ []) ∷ (int 2 ∷ int 1 ∷ []) ∷ [])
 
@@ -25,18 +26,18 @@ pub record EachComparison : Type 0 where
   pub at_most : EndsWith (compared (codes "=<")) (codes "{'true','true','false'}")
   pub at_least : EndsWith (compared (codes ">=")) (codes "{'false','true','true'}")
 
-abbrev yes : Source
+abbrev yes : Syntax
 yes = atom (codes "true")
 
-abbrev no : Source
+abbrev no : Syntax
 no = atom (codes "false")
 
 -- at each two truth values
-abbrev pub of_two_truths : List ℕ → Source
+abbrev pub of_two_truths : List ℕ → Syntax
 of_two_truths name =
     each_of name ((yes ∷ yes ∷ []) ∷ (yes ∷ no ∷ []) ∷ (no ∷ yes ∷ []) ∷ (no ∷ no ∷ []) ∷ [])
 
-abbrev pub of_each_truth : List ℕ → Source
+abbrev pub of_each_truth : List ℕ → Syntax
 of_each_truth name = each_of name ((yes ∷ []) ∷ (no ∷ []) ∷ [])
 
 pub record TruthTables : Type 0 where
@@ -46,12 +47,12 @@ pub record TruthTables : Type 0 where
   pub other : EndsWith (of_each_truth (codes "not")) (codes "{'false','true'}")
 
 -- at 1, 'a', 'true', self(), [], [1] and {}
-abbrev pub of_each_kind : List ℕ → Source
+abbrev pub of_each_kind : List ℕ → Syntax
 of_each_kind name =
     each_of name
     (
     (int 1 ∷ []) ∷ (atom (codes "a") ∷ []) ∷ (yes ∷ []) ∷ (erlang (codes "self") [] ∷ [])
-    ∷ (SNil ∷ []) ∷ (list (int 1 ∷ []) ∷ []) ∷ (tuple [] ∷ []) ∷ []
+    ∷ (syntax.Nil ∷ []) ∷ (list (int 1 ∷ []) ∷ []) ∷ (tuple [] ∷ []) ∷ []
     )
 
 pub record EachKindOfEach : Type 0 where
@@ -80,9 +81,9 @@ pub record EachKindOfEach : Type 0 where
 -- {hd([1|2]), tl([1|2]), length([1, 2]), tuple_size({1, 2}), element(2, {1, 2}),
 --  setelement(2, {1, 2}, 3), abs(-3), -(3), band(12, 10), bor(12, 10), bxor(12, 10),
 --  +(576460752303423486, 1), -(5, 3), *(6, 7)}
-abbrev pub other_names : Source
+abbrev pub other_names : Syntax
 other_names =
-    let improper = SList (sources (int 1 ∷ [])) (int 2) in
+    let improper = syntax.ListOf 0 (syntaxes (int 1 ∷ [])) (int 2) in
     let pair = tuple (int 1 ∷ int 2 ∷ []) in
     let bits = int 12 ∷ int 10 ∷ [] in
     tuple
@@ -91,16 +92,16 @@ other_names =
     ∷ erlang (codes "length") (list (int 1 ∷ int 2 ∷ []) ∷ [])
     ∷ erlang (codes "tuple_size") (pair ∷ []) ∷ erlang (codes "element") (int 2 ∷ pair ∷ [])
     ∷ erlang (codes "setelement") (int 2 ∷ pair ∷ int 3 ∷ [])
-    ∷ erlang (codes "abs") (SInt (negsuc 2) ∷ []) ∷ erlang (codes "-") (int 3 ∷ [])
+    ∷ erlang (codes "abs") (syntax.Int (negsuc 2) ∷ []) ∷ erlang (codes "-") (int 3 ∷ [])
     ∷ erlang (codes "band") bits ∷ erlang (codes "bor") bits ∷ erlang (codes "bxor") bits
     ∷ erlang (codes "+") (int 576460752303423486 ∷ int 1 ∷ [])
     ∷ erlang (codes "-") (int 5 ∷ int 3 ∷ []) ∷ erlang (codes "*") (int 6 ∷ int 7 ∷ []) ∷ []
     )
 
-abbrev pub sends : Source
+abbrev pub sends : Syntax
 sends = erlang (codes "send") (erlang (codes "self") [] ∷ int 1 ∷ [])
 
-abbrev pub errs : Source
+abbrev pub errs : Syntax
 errs = erlang (codes "error") (int 1 ∷ [])
 
 pub record EachNameOnce : Type 0 where

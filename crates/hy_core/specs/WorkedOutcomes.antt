@@ -6,10 +6,10 @@ use Rattle.hy_core.specs.declared.end.Cause.TheVariants.{Calls, Heap, Area, Log,
 use Rattle.hy_core.specs.declared.end.End.TheVariants.{Ended, Raised, Stopped}
 use Rattle.hy_core.specs.Output.{outcome_line}
 use Rattle.hy_core.specs.SmallPrograms.{atom, int, list, erlang, line, Writes}
-use Rattle.hy_core.specs.Source.{Source}
+use Rattle.hy_core.specs.Syntax.{Syntax}
 use Rattle.hy_core.specs.Worked.{event}
 
-abbrev pub exits : Source
+abbrev pub exits : Syntax
 exits = erlang (codes "exit") (int 1 ∷ [])
 
 abbrev pub ExitOutcome : Type 0
@@ -28,7 +28,7 @@ pub record StopOutcomes : Type 0 where
   pub memory : stopped Memory ≡ line (codes "3 stopped memory")
 
 -- erlang:spawn('m', 'child', [1, 2])
-abbrev pub spawns : Source
+abbrev pub spawns : Syntax
 spawns =
     erlang (codes "spawn")
     (atom (codes "m") ∷ atom (codes "child") ∷ list (int 1 ∷ int 2 ∷ []) ∷ [])
