@@ -7,11 +7,10 @@ use Rattle.hy_core.specs.declared.step.Step.{Step}
 use Rattle.hy_core.specs.FullRun.{NeverStopped, IsFullRun, after_run}
 use Rattle.hy_core.specs.Machine.{Configuration}
 use Rattle.hy_core.specs.ProgramTrees.{function_trees}
-use Rattle.hy_core.specs.Resolved.{FunctionTree}
+use Rattle.hy_core.specs.Resolved.{FunctionTree, AnyTerm, NoPatterns, MorePatterns}
 use Rattle.hy_core.specs.SmallPrograms.{texts, names, modules, atom, int, erlang, Writes}
 use Rattle.hy_core.specs.Syntax as syntax
 use Rattle.hy_core.specs.Syntax.{Syntax, module_trees}
-use Rattle.hy_core.specs.Resolved.{AnyTerm, NoPatterns, MorePatterns}
 use Rattle.hy_core.specs.Worked.{limit, event, took, lapsed}
 use Rattle.hy_core.specs.WorkedOutcomes.{spawns}
 
@@ -43,8 +42,8 @@ sends_to_itself s = syntax.Do (erlang (codes "send") (erlang (codes "self") [] â
 -- receive <X> -> X after T -> 'false'
 abbrev receive_any : Syntax â†’ Syntax
 receive_any timeout =
-    syntax.Receive (syntax.MoreClauses (MorePatterns (AnyTerm 0) NoPatterns) (atom (codes "true")) (syntax.Var 0) syntax.NoClauses) timeout
-    (atom (codes "false"))
+    let any = syntax.MoreClauses (MorePatterns (AnyTerm 0) NoPatterns) (atom (codes "true")) in
+    syntax.Receive (any (syntax.Var 0) syntax.NoClauses) timeout (atom (codes "false"))
 
 abbrev pub waits : Syntax
 waits = receive_any (atom (codes "infinity"))

@@ -79,7 +79,8 @@ modules body =
       functions =
           MoreDefinitions main [] body
           (MoreDefinitions f (0 ∷ []) (atom (codes "module"))
-          (MoreDefinitions child (0 ∷ 1 ∷ []) (erlang (codes "display") (tuple (syntax.Var 0 ∷ syntax.Var 1 ∷ []) ∷ []))
+          (MoreDefinitions child (0 ∷ 1 ∷ [])
+          (erlang (codes "display") (tuple (syntax.Var 0 ∷ syntax.Var 1 ∷ []) ∷ []))
           NoDefinitions));
     }
     ∷ []

@@ -1,18 +1,22 @@
 -- Patterns and innermost bindings: small programs and what they end with.
 use Rattle.std.specs.Prelude.{List, [], ◌∷◌, codes, pos}
+use Rattle.hy_core.specs.Resolved.{Pattern, AnyTerm, TheInt, TheText, TheTuple, TheList, Alias}
 use Rattle.hy_core.specs.SmallPrograms.{atom, int, syntaxes, tuple, f, EndsWith}
 use Rattle.hy_core.specs.Syntax as syntax
 use Rattle.hy_core.specs.Syntax.{Syntax, patterns_of, NoDefinitions, MoreDefinitions}
-use Rattle.hy_core.specs.Resolved.{Pattern, AnyTerm, TheInt, TheText, TheTuple, TheList, Alias, NoPatterns, MorePatterns}
+
+abbrev tuple_pattern : List Pattern → Pattern
+tuple_pattern ps = TheTuple (patterns_of ps)
 
 -- <{..}> when 'true' -> S
 abbrev tuple_clause : List Pattern → Syntax → syntax.Clauses → syntax.Clauses
-tuple_clause ps s cs = syntax.MoreClauses (MorePatterns (TheTuple (patterns_of ps)) NoPatterns) (atom (codes "true")) s cs
+tuple_clause ps s cs =
+    syntax.MoreClauses (patterns_of (tuple_pattern ps ∷ [])) (atom (codes "true")) s cs
 
 -- X = {2, [H|T]}
 abbrev named_part : Pattern
 named_part =
-    Alias 4 (TheTuple (patterns_of (TheInt (pos 2) ∷ TheList (patterns_of (AnyTerm 5 ∷ [])) (AnyTerm 6) ∷ [])))
+    Alias 4 (tuple_pattern (TheInt (pos 2) ∷ TheList (patterns_of (AnyTerm 5 ∷ [])) (AnyTerm 6) ∷ []))
 
 -- {1, {2, [3, 4|5]}, "ab"}
 abbrev value : Syntax
@@ -56,7 +60,8 @@ function_again = letrec_f (atom (codes "outer")) (letrec_f (atom (codes "inner")
 abbrev pub bound_around : Syntax
 bound_around =
     syntax.Let (0 ∷ []) (int 1)
-    (letrec_f (tuple (syntax.Var 0 ∷ syntax.Var 1 ∷ [])) (syntax.Let (0 ∷ []) (int 2) (apply_f (syntax.Var 0))))
+    (letrec_f (tuple (syntax.Var 0 ∷ syntax.Var 1 ∷ []))
+    (syntax.Let (0 ∷ []) (int 2) (apply_f (syntax.Var 0))))
 
 -- a name stands for its innermost binding, around the place where it stands
 pub record InnermostBindings : Type 0 where
