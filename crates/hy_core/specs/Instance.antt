@@ -5,8 +5,8 @@ use Rattle.hy_core.specs.Evaluation.{text_term, conses}
 use Rattle.hy_core.specs.Match.{Env, lookup}
 use Rattle.hy_core.specs.Resolved.{Pattern, AnyTerm, TheInt, TheAtom, TheNil, TheText, TheTuple, TheList, Alias, Patterns, NoPatterns, MorePatterns}
 
--- the term is the pattern with its variables filled in: a tuple or a list of its parts filled in, and
--- an alias both its variable and its pattern
+-- the term is the pattern with its variables filled in: a tuple or a list of its parts filled in,
+-- and an alias both its variable and its pattern
 abbrev mutual
   pub IsInstance : Pattern → Env → Term → Type 0
   IsInstance (AnyTerm x) env t = lookup x env ≡ Some t

@@ -6,7 +6,7 @@ use Rattle.hy_core.specs.declared.bif.Bif.{Bif}
 use Rattle.hy_core.specs.declared.bif.Bif.TheVariants as b
 use Rattle.hy_core.specs.BuiltIn.{Value, answer, length_of, with_element}
 
--- where a length or a size is asked it is in the range: a machine holds no longer list or tuple
+-- where a length or a size is asked it is itself a number of the range
 abbrev pub IsCounted : Bif → List Term → Type 0
 IsCounted b.Length (t ∷ []) = (n : ℕ) → length_of t ≡ Some n → IsNumber (pos n)
 IsCounted b.TupleSize (Tuple ts ∷ []) = IsNumber (pos (size_of ts))

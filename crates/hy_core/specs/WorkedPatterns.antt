@@ -16,7 +16,8 @@ tuple_clause ps s cs =
 -- X = {2, [H|T]}
 abbrev named_part : Pattern
 named_part =
-    Alias 4 (tuple_pattern (TheInt (pos 2) ∷ TheList (patterns_of (AnyTerm 5 ∷ [])) (AnyTerm 6) ∷ []))
+    let list_pattern = TheList (patterns_of (AnyTerm 5 ∷ [])) (AnyTerm 6) in
+    Alias 4 (tuple_pattern (TheInt (pos 2) ∷ list_pattern ∷ []))
 
 -- {1, {2, [3, 4|5]}, "ab"}
 abbrev value : Syntax
