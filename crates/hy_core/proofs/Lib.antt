@@ -1,11 +1,13 @@
 pub mod AloneLemmas
 pub mod BuiltParts
+pub mod Comparing
 pub mod Forms
 pub mod MainLemmas
 pub mod Meanings
 pub mod Resolving
 pub mod Rules
 pub mod Runs
+pub mod Simulating
 pub mod Source
 pub mod Timing
 pub mod WorkedRuns

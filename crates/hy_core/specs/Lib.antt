@@ -6,6 +6,8 @@ pub mod BuiltInTable
 pub mod Built
 pub mod Bytes
 pub mod Canonical
+pub mod Comparison
+pub mod ComparisonLaws
 pub mod Computation
 pub mod Counting
 pub mod Evaluation
@@ -33,6 +35,8 @@ pub mod Refusals
 pub mod Resolve
 pub mod ResolvedExample
 pub mod Resolved
+pub mod Simulation
+pub mod SimulationLaws
 pub mod Sites
 pub mod Source
 pub mod SubPatterns

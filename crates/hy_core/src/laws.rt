@@ -6,3 +6,5 @@ pub mod built_ins;
 pub mod evaluation;
 /// Small programs, and what they do.
 pub mod runs;
+/// When runs are the same, and how it is shown.
+pub mod simulation;

@@ -1,0 +1,126 @@
+ghost use Rattle.std.specs.Prelude.{List};
+ghost use Rattle.hy_core.specs.ComparisonLaws.{
+  ComparesWithItself,
+  Composes,
+  SameInResult,
+  SameIsEqual,
+  WaitsAlike,
+};
+ghost use Rattle.hy_core.specs.SimulationLaws.{
+  GoesThroughParts,
+  RunsTheSame,
+  SimulatesItself,
+  SkipsUnseen,
+};
+
+/// Each run is the same as itself.
+pub fn runs_compare_with_themselves<Value, Class, Act, Wait>()
+    ensures { ComparesWithItself Value Class Act Wait }
+{}
+
+/// Over the same values, and where each act is shown, runs that are the same are equal: in the events and
+/// uses of inputs in their order, in the calls and the inputs left, and in the end. Where the end is a
+/// `receive` that waits, `waits_are_alike` says what is the same.
+pub fn same_runs_are_equal<Value, Class, Act, Wait>()
+    ensures { SameIsEqual Value Class Act Wait }
+{}
+
+/// Comparison composes: of three runs, where the first and the second are the same and the second and
+/// the third, so are the first and the third. The values of the third stand for those that their values
+/// in the second stand for, and its acts show what is shown of what they show.
+pub fn comparison_composes<
+    Value,
+    NextValue,
+    LastValue,
+    Class,
+    Act,
+    NextAct,
+    LastAct,
+    Wait,
+    NextWait,
+    LastWait,
+>()
+    ensures { Composes Value NextValue LastValue Class Act NextAct LastAct Wait NextWait LastWait }
+{}
+
+/// Where a run waits in a `receive`, one that is the same does too, with the same timeout, and for each
+/// message both accept it or neither does.
+pub fn waits_are_alike<Value, NextValue, Class, Act, NextAct, Wait, NextWait>()
+    ensures { WaitsAlike Value NextValue Class Act NextAct Wait NextWait }
+{}
+
+/// Runs that are the same have the same events, calls left, inputs left and end.
+pub fn same_runs_have_the_same_results<Value, NextValue, Class, Act, NextAct, Wait, NextWait>()
+    ensures { SameInResult Value NextValue Class Act NextAct Wait NextWait }
+{}
+
+/// Which calls of a second meaning stand for which calls of a first, and which acts the first may do.
+/// The call that stands for another may have more arguments, as those of captured variables.
+pub trait Correspondence<Value, Callee, Act, NextValue, NextCallee> {
+    ghost calls: { Callee → List Value → NextCallee → List NextValue → Type 0 };
+
+    ghost allowed: { Act → Type 0 };
+}
+
+/// A computation simulates itself, where each call stands for itself.
+pub fn computations_simulate_themselves<Value, Class, Callee, Act, Wait>()
+    ensures { SimulatesItself Value Class Callee Act Wait }
+{}
+
+/// A computation may do acts that show nothing before it does what it simulates.
+pub fn unseen_acts_are_skipped<
+    Value,
+    NextValue,
+    Class,
+    Callee,
+    NextCallee,
+    Act,
+    NextAct,
+    Wait,
+    NextWait,
+    Relation,
+>()
+where
+    Relation: Correspondence<Value, Callee, Act, NextValue, NextCallee>,
+    ensures { SkipsUnseen Class NextAct Wait NextWait Relation.allowed Relation.calls }
+{}
+
+/// Simulation goes through a part: where a part is simulated, what follows its values and what follows
+/// what it raises, then so is the whole.
+pub fn simulation_goes_through_parts<
+    Value,
+    NextValue,
+    Class,
+    Callee,
+    NextCallee,
+    Act,
+    NextAct,
+    Wait,
+    NextWait,
+    Relation,
+>()
+where
+    Relation: Correspondence<Value, Callee, Act, NextValue, NextCallee>,
+    ensures { GoesThroughParts Class NextAct Wait NextWait Relation.allowed Relation.calls }
+{}
+
+/// Where the bodies of calls that stand for each other simulate each other, a computation that simulates
+/// another has the same run as it, for each number of calls and each list of inputs, and each act of that
+/// run is an allowed one. Both spend the same calls.
+pub fn simulation_keeps_runs<
+    Value,
+    NextValue,
+    Class,
+    Callee,
+    NextCallee,
+    Act,
+    NextAct,
+    Done,
+    Wait,
+    NextWait,
+    Relation,
+>()
+where
+    Relation: Correspondence<Value, Callee, Act, NextValue, NextCallee>,
+    ensures { RunsTheSame Class NextAct Wait NextWait Relation.allowed Relation.calls Done }
+{}
