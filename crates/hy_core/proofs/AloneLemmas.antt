@@ -14,8 +14,8 @@ use Rattle.hy_core.specs.Computation as outcome
 use Rattle.hy_core.specs.Computation.{Input, Values, Result}
 use Rattle.hy_core.specs.Evaluation.{Evaluated, accepts}
 use Rattle.hy_core.specs.Event.{Event, Printed}
-use Rattle.hy_core.specs.FullRun.{IsFullRun, runs_of}
-use Rattle.hy_core.specs.Machine.{Process, Configuration, IsThrough, after_steps, after_step, event_step, start, if_at}
+use Rattle.hy_core.specs.FullRun.{IsFullRun, runs_of, behaviour_of}
+use Rattle.hy_core.specs.Machine.{Behaviour, Process, Configuration, IsThrough, after_steps, after_step, event_step, start, if_at}
 use Rattle.hy_core.specs.Output.{outcome_line}
 use Rattle.hy_core.specs.Resolved.{FunctionTree, Timeout}
 
@@ -36,55 +36,55 @@ abbrev pub alone : {V : Type 0} → (main done : ℕ) → (output : List ℕ) �
 alone main done output =
     record { processes = record { pid = 0; function = main; arguments = []; inputs = []; done = done; mailbox = [] } ∷ []; events = done; output = output }
 
-module _ {V W : Type 0} (runs : ℕ → ℕ → List V → List (Input V) → Result V Class (Event V) W) (accepts : ℕ → W → V → Bool) (timeout : W → Timeout) (text_of : V → List ℕ) where
+module _ {V W : Type 0} (behaviour : Behaviour V W) where
   abbrev steps : List Step → Option (Configuration V) → Option (Configuration V)
-  steps = after_steps runs accepts timeout text_of
+  steps = after_steps behaviour
 
-  one_event : (main : ℕ) (events : List (Event V)) (done : ℕ) (t : V) (output : List ℕ) → (runs 0 main [] []).events ≡ events → slice_get events done ≡ Some (Printed t) → after_step runs accepts timeout text_of (record { pid = 0; item = item.Event done }) (alone main done output) ≡ Some (alone main (suc done) (output ++ (text_of t ++ 10 ∷ [])))
+  one_event : (main : ℕ) (events : List (Event V)) (done : ℕ) (t : V) (output : List ℕ) → (behaviour.runs 0 main [] []).events ≡ events → slice_get events done ≡ Some (Printed t) → after_step behaviour (record { pid = 0; item = item.Event done }) (alone main done output) ≡ Some (alone main (suc done) (output ++ (behaviour.text_of t ++ 10 ∷ [])))
   one_event main events done t output p q =
       let process : Process V = record { pid = 0; function = main; arguments = []; inputs = []; done = done; mailbox = [] } in
-      ap (λ e. event_step runs accepts timeout text_of done process e (alone main done output)) (ap (λ es. slice_get es done) p ∙ q)
-      ∙ if_at_same done (alone main (suc done) (output ++ (text_of t ++ 10 ∷ [])))
+      ap (λ e. event_step behaviour done process e (alone main done output)) (ap (λ es. slice_get es done) p ∙ q)
+      ∙ if_at_same done (alone main (suc done) (output ++ (behaviour.text_of t ++ 10 ∷ [])))
 
   -- from what is past on, each event is carried out at the next place
-  events_on : (main : ℕ) (past : List (Event V)) (done : ℕ) (more : List V) (output : List ℕ) → done ≡ length past → (runs 0 main [] []).events ≡ past ++ map Printed more → steps (events_from done (length more)) (Some (alone main done output)) ≡ Some (alone main (counted done more) (output ++ lines_of (map text_of more)))
+  events_on : (main : ℕ) (past : List (Event V)) (done : ℕ) (more : List V) (output : List ℕ) → done ≡ length past → (behaviour.runs 0 main [] []).events ≡ past ++ map Printed more → steps (events_from done (length more)) (Some (alone main done output)) ≡ Some (alone main (counted done more) (output ++ lines_of (map behaviour.text_of more)))
   unfolding counted
   events_on main past done [] output d p = ap (λ text. Some (alone main done text)) (sym (append-nil output))
   events_on main past done (t ∷ more) output d p =
       let e : Event V = Printed t in
       let rest = map Printed more in
       ap (steps (events_from (suc done) (length more))) (one_event main (past ++ e ∷ rest) done t output p (ap (slice_get (past ++ e ∷ rest)) d ∙ next_of past e rest))
-      ∙ events_on main (past ++ e ∷ []) (suc done) more (output ++ (text_of t ++ 10 ∷ [])) (omega (arith, length-append past (e ∷ []), d)) (p ∙ sym (append_assoc past (e ∷ []) rest))
-      ∙ ap (λ text. Some (alone main (counted (suc done) more) text)) (append_assoc output (text_of t ++ 10 ∷ []) (lines_of (map text_of more)))
+      ∙ events_on main (past ++ e ∷ []) (suc done) more (output ++ (behaviour.text_of t ++ 10 ∷ [])) (omega (arith, length-append past (e ∷ []), d)) (p ∙ sym (append_assoc past (e ∷ []) rest))
+      ∙ ap (λ text. Some (alone main (counted (suc done) more) text)) (append_assoc output (behaviour.text_of t ++ 10 ∷ []) (lines_of (map behaviour.text_of more)))
 
 counted-is : {A : Type 0} (n : ℕ) (xs : List A) → counted n xs ≡ n + length xs
 unfolding counted
 counted-is n [] = omega arith
 counted-is n (x ∷ xs) = counted-is (suc n) xs ∙ omega arith
 
-module _ {V W : Type 0} (runs : ℕ → ℕ → List V → List (Input V) → Result V Class (Event V) W) (accepts : ℕ → W → V → Bool) (timeout : W → Timeout) (text_of : V → List ℕ) where
+module _ {V W : Type 0} (behaviour : Behaviour V W) where
   -- the events of a process that only prints, at the places from 0 on, are a run
-  pub prints : (main : ℕ) (ts : List V) → (runs 0 main [] []).events ≡ map Printed ts → after_steps runs accepts timeout text_of (events_from 0 (length ts)) (Some (start main)) ≡ Some (alone main (length ts) (lines_of (map text_of ts)))
+  pub prints : (main : ℕ) (ts : List V) → (behaviour.runs 0 main [] []).events ≡ map Printed ts → after_steps behaviour (events_from 0 (length ts)) (Some (start main)) ≡ Some (alone main (length ts) (lines_of (map behaviour.text_of ts)))
   prints main ts p =
-      events_on runs accepts timeout text_of main [] 0 ts [] refl p
-      ∙ ap (λ n. Some (alone main n (lines_of (map text_of ts)))) (counted-is 0 ts ∙ omega arith)
+      events_on behaviour main [] 0 ts [] refl p
+      ∙ ap (λ n. Some (alone main n (lines_of (map behaviour.text_of ts)))) (counted-is 0 ts ∙ omega arith)
 
 -- The full run of a program whose first process only prints, and its output.
 module _ (program : List FunctionTree) (atoms : List (List ℕ)) (limit : ℕ) (stopped : Process Term → Cause → Type 0) (main : ℕ) where
-  abbrev does : Evaluated program atoms 0
+  abbrev does : Evaluated
   does = runs_of program atoms limit 0 main [] []
 
   abbrev text : Term → List ℕ
   text = term_text atoms
 
-  through : (ts : List Term) → does.events ≡ map Printed ts → does.inputs ≡ [] → IsThrough (runs_of program atoms limit) (accepts atoms) (λ wait. wait.timeout) text (record { pid = 0; function = main; arguments = []; inputs = []; done = length ts; mailbox = [] })
+  through : (ts : List Term) → does.events ≡ map Printed ts → does.inputs ≡ [] → IsThrough (behaviour_of program atoms limit) (record { pid = 0; function = main; arguments = []; inputs = []; done = length ts; mailbox = [] })
   through ts p q = record { events = sym (ap length p ∙ length-map ts Printed); inputs = q }
 
   pub prints_and_ends : (ts : List Term) (value : Term) → does.events ≡ map Printed ts → does.inputs ≡ [] → does.end ≡ Values (value ∷ []) → IsFullRun program atoms limit stopped main (events_from 0 (length ts)) (Ended (text value) ∷ []) (lines_of (map text ts) ++ (outcome_line 0 (Ended (text value)) ++ []))
   prints_and_ends ts value p q e = record {
     full = record {
       last = alone main (length ts) (lines_of (map text ts));
-      allowed = prints (runs_of program atoms limit) (accepts atoms) (λ wait. wait.timeout) text main ts p;
+      allowed = prints (behaviour_of program atoms limit) main ts p;
       at_ends = (record { through = through ts p q; value = value; end = e; printed = refl }, tt);
     };
     writes = refl;
@@ -94,7 +94,7 @@ module _ (program : List FunctionTree) (atoms : List (List ℕ)) (limit : ℕ) (
   prints_and_raises ts class reason p q e = record {
     full = record {
       last = alone main (length ts) (lines_of (map text ts));
-      allowed = prints (runs_of program atoms limit) (accepts atoms) (λ wait. wait.timeout) text main ts p;
+      allowed = prints (behaviour_of program atoms limit) main ts p;
       at_ends = (record { through = through ts p q; reason = reason; end = e; printed = refl }, tt);
     };
     writes = refl;

@@ -3,7 +3,7 @@ use Rattle.std.proofs.Common.{◌≡◌, ℕ, zero, suc, Bool, true, false, List
 use Rattle.hy_terms.specs.Term as term
 use Rattle.hy_terms.specs.Term.{Term, terms_of}
 use Rattle.hy_core.specs.declared.class.Class.TheVariants.{Error}
-use Rattle.hy_core.specs.BuiltIn.{Answer, Value, Raises, answer, no_clause, or_badarg, with_element}
+use Rattle.hy_core.specs.BuiltIn.{Answer, Value, Raises, NoAnswer, answer, no_clause, or_badarg, with_element}
 use Rattle.hy_core.specs.Computation.{Give, bind, Input, Got, Lapsed, Born, Raised, Wrong, then_run, with_one, ended}
 use Rattle.hy_core.specs.Evaluation.{Doing, Evaluated, eval, evaluated, denote, denote_all, choose, holds, first_of_two, or_no_clause, or_fault, in_env, single, give, call, call_if, Callee, Top, body_of, act_on, answered, answer_end, value_of, value_end, local_callee, lapse, send, setelement, conses}
 use Rattle.hy_core.specs.EvaluationLaws.{Closed, closed, chosen, eval_chosen, eval_in, eval_all, called, called_if, spawned, received, sent, built, one_value, GiveThemselves, BuildFromParts, GoOn, CaseChooses, CallsCost, ReceiveUsesInput, BuiltInsAnswer, EventsHappen}
@@ -14,7 +14,7 @@ use Rattle.hy_core.specs.Resolved.{FunctionTree, Timeout, AtOnce, Never, Express
 use Rattle.hy_core.proofs.Rules.{evaluated_bind, evaluated_single, evaluated_one_argument, all_more, then_same, then_same_one}
 
 module _ (program : List FunctionTree) (atoms : List (List ℕ)) (pid : ℕ) where
-  abbrev ran : ℕ → Doing → List (Input Term) → Evaluated program atoms pid
+  abbrev ran : ℕ → Doing → List (Input Term) → Evaluated
   ran = evaluated program atoms pid
 
   abbrev den : Expression → Env → Doing
@@ -32,13 +32,14 @@ module _ (program : List FunctionTree) (atoms : List (List ℕ)) (pid : ℕ) whe
   pub answer_ended : (n : ℕ) (ins : List (Input Term)) (a : Answer) → ran n (answered a) ins ≡ ended n ins (answer_end a)
   answer_ended n ins (Value t) = refl
   answer_ended n ins (Raises class reason) = refl
+  answer_ended n ins NoAnswer = refl
 
   in_env_ran : (o : Option Env) (e : Expression) (n : ℕ) (ins : List (Input Term)) → ran n (in_env (den e) o) ins ≡ eval_in program atoms pid o e n ins
   in_env_ran None e n ins = refl
   in_env_ran (Some env) e n ins = refl
 
   -- what follows all parts
-  after_all_parts : (n : ℕ) (es : Expressions) (env : Env) (k : List Term → Doing) (j : List Term → ℕ → List (Input Term) → Evaluated program atoms pid) (ins : List (Input Term)) → ((ts : List Term) (m : ℕ) (jns : List (Input Term)) → ran m (k ts) jns ≡ j ts m jns) → ran n (bind (dens es env) k) ins ≡ then_run (eval_all program atoms pid n env es ins) j
+  after_all_parts : (n : ℕ) (es : Expressions) (env : Env) (k : List Term → Doing) (j : List Term → ℕ → List (Input Term) → Evaluated) (ins : List (Input Term)) → ((ts : List Term) (m : ℕ) (jns : List (Input Term)) → ran m (k ts) jns ≡ j ts m jns) → ran n (bind (dens es env) k) ins ≡ then_run (eval_all program atoms pid n env es ins) j
   after_all_parts n es env k j ins h = evaluated_bind program atoms pid n (dens es env) k ins ∙ then_same program atoms pid n (dens es env) ins (λ ts m jns. ran m (k ts) jns) j h
 
   -- the first clause that accepts
@@ -85,14 +86,14 @@ module _ (program : List FunctionTree) (atoms : List (List ℕ)) (pid : ℕ) whe
 
   send_ran : (ts : List Term) (n : ℕ) (ins : List (Input Term)) → ran n (send ts) ins ≡ sent program atoms pid ts n ins
   send_ran [] n ins = refl
-  send_ran (term.Int m ∷ ts) n ins = refl
-  send_ran (term.Atom a ∷ ts) n ins = refl
-  send_ran (term.Nil ∷ ts) n ins = refl
-  send_ran (term.Cons h t ∷ ts) n ins = refl
-  send_ran (term.Tuple us ∷ ts) n ins = refl
-  send_ran (term.Pid to ∷ []) n ins = refl
+  send_ran (t ∷ []) n ins = refl
+  send_ran (term.Int m ∷ t ∷ []) n ins = refl
+  send_ran (term.Atom a ∷ t ∷ []) n ins = refl
+  send_ran (term.Nil ∷ t ∷ []) n ins = refl
+  send_ran (term.Cons head tail ∷ t ∷ []) n ins = refl
+  send_ran (term.Tuple us ∷ t ∷ []) n ins = refl
   send_ran (term.Pid to ∷ t ∷ []) n ins = refl
-  send_ran (term.Pid to ∷ t ∷ u ∷ ts) n ins = refl
+  send_ran (to ∷ t ∷ u ∷ ts) n ins = refl
 
   lapse_ran : (timeout : Timeout) (env : Env) (e : Expression) (n : ℕ) (ins : List (Input Term)) → ran n (lapse timeout (den e env)) ins ≡ laws.lapsed program atoms pid timeout env e n ins
   lapse_ran AtOnce env e n ins = refl

@@ -23,14 +23,14 @@ use Rattle.hy_core.proofs.Resolving.{part_of-Int, part_of-Atom, part_of-Var, par
 use Rattle.hy_core.proofs.Rules.{evaluated_bind, evaluated_single, evaluated_one_argument, evaluated_two_arguments, then_same, then_same_one}
 
 module _ (program : List FunctionTree) (atoms : List (List ℕ)) (names : Names) (current pid : ℕ) where
-  abbrev ran : ℕ → Doing → List (Input Term) → Evaluated program atoms pid
+  abbrev ran : ℕ → Doing → List (Input Term) → Evaluated
   ran = evaluated program atoms pid
 
-  abbrev means : List FunName → Place → ℕ → Env → Expr → List (Input Term) → Evaluated program atoms pid
+  abbrev means : List FunName → Place → ℕ → Env → Expr → List (Input Term) → Evaluated
   means = meaning program atoms names current pid
 
   -- an expression as a part of a whole
-  abbrev part_means : List FunName → Place → ℕ → Env → List (Input Term) → Part → Evaluated program atoms pid
+  abbrev part_means : List FunName → Place → ℕ → Env → List (Input Term) → Part → Evaluated
   part_means locals place n env ins part = eval program atoms pid n env (part.make locals place).0 ins
 
   pub meaning-Int : (locals : List FunName) (place : Place) (n : ℕ) (env : Env) (v : ℤ) (ins : List (Input Term)) → means locals place n env (e.Int v) ins ≡ ended n ins (Values (term.Int v ∷ []))

@@ -18,10 +18,10 @@ with_values_same events n ins Spent k j h = refl
 with_values_same events n ins Wrong k j h = refl
 
 module _ (program : List FunctionTree) (atoms : List (List ℕ)) (pid : ℕ) where
-  abbrev ran : ℕ → Doing → List (Input Term) → Evaluated program atoms pid
+  abbrev ran : ℕ → Doing → List (Input Term) → Evaluated
   ran = evaluated program atoms pid
 
-  abbrev then_by : ℕ → Doing → List (Input Term) → (List Term → ℕ → List (Input Term) → Evaluated program atoms pid) → Evaluated program atoms pid
+  abbrev then_by : ℕ → Doing → List (Input Term) → (List Term → ℕ → List (Input Term) → Evaluated) → Evaluated
   then_by n p ins k = then_run (ran n p ins) k
 
   pub evaluated_bind : (n : ℕ) (p : Doing) (k : List Term → Doing) (ins : List (Input Term)) → ran n (bind p k) ins ≡ then_by n p ins (λ ts m jns. ran m (k ts) jns)
@@ -39,16 +39,16 @@ module _ (program : List FunctionTree) (atoms : List (List ℕ)) (pid : ℕ) whe
       evaluated_bind n p (single k) ins
       ∙ with_values_same q.events q.calls q.inputs q.end (λ ts m jns. ran m (single k ts) jns) (with_one (λ t m jns. ran m (k t) jns)) (evaluated_one k)
 
-  with_one_same : (k j : Term → ℕ → List (Input Term) → Evaluated program atoms pid) → ((t : Term) (m : ℕ) (jns : List (Input Term)) → k t m jns ≡ j t m jns) → (ts : List Term) (m : ℕ) (jns : List (Input Term)) → with_one k ts m jns ≡ with_one j ts m jns
+  with_one_same : (k j : Term → ℕ → List (Input Term) → Evaluated) → ((t : Term) (m : ℕ) (jns : List (Input Term)) → k t m jns ≡ j t m jns) → (ts : List Term) (m : ℕ) (jns : List (Input Term)) → with_one k ts m jns ≡ with_one j ts m jns
   with_one_same k j h [] m jns = refl
   with_one_same k j h (t ∷ []) m jns = h t m jns
   with_one_same k j h (t ∷ u ∷ ts) m jns = refl
 
   -- goes on alike behind the same part
-  pub then_same : (n : ℕ) (p : Doing) (ins : List (Input Term)) (k j : List Term → ℕ → List (Input Term) → Evaluated program atoms pid) → ((ts : List Term) (m : ℕ) (jns : List (Input Term)) → k ts m jns ≡ j ts m jns) → then_by n p ins k ≡ then_by n p ins j
+  pub then_same : (n : ℕ) (p : Doing) (ins : List (Input Term)) (k j : List Term → ℕ → List (Input Term) → Evaluated) → ((ts : List Term) (m : ℕ) (jns : List (Input Term)) → k ts m jns ≡ j ts m jns) → then_by n p ins k ≡ then_by n p ins j
   then_same n p ins k j h = let q = ran n p ins in with_values_same q.events q.calls q.inputs q.end k j h
 
-  pub then_same_one : (n : ℕ) (p : Doing) (ins : List (Input Term)) (k j : Term → ℕ → List (Input Term) → Evaluated program atoms pid) → ((t : Term) (m : ℕ) (jns : List (Input Term)) → k t m jns ≡ j t m jns) → then_by n p ins (with_one k) ≡ then_by n p ins (with_one j)
+  pub then_same_one : (n : ℕ) (p : Doing) (ins : List (Input Term)) (k j : Term → ℕ → List (Input Term) → Evaluated) → ((t : Term) (m : ℕ) (jns : List (Input Term)) → k t m jns ≡ j t m jns) → then_by n p ins (with_one k) ≡ then_by n p ins (with_one j)
   then_same_one n p ins k j h = then_same n p ins (with_one k) (with_one j) (with_one_same k j h)
 
   bind_one : (f : Term → Doing) (k : List Term → Doing) (ts : List Term) → bind (single f ts) k ≡ single (λ t. bind (f t) k) ts

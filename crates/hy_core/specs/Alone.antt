@@ -25,7 +25,7 @@ lines_of [] = []
 lines_of (text ∷ texts) = text ++ 10 ∷ [] ++ lines_of texts
 
 -- what the first process does, when it has so many calls and no input
-abbrev pub does_alone : (program : List FunctionTree) (atoms : List (List ℕ)) (limit main : ℕ) → Evaluated program atoms 0
+abbrev pub does_alone : (program : List FunctionTree) (atoms : List (List ℕ)) (limit main : ℕ) → Evaluated
 does_alone program atoms limit main = runs_of program atoms limit 0 main [] []
 
 -- where the first process only prints, and ends, its events in order are a full run, which writes each text

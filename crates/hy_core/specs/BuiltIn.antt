@@ -8,16 +8,18 @@ use Rattle.std.specs.declared.cmp.Ordering.{Ordering}
 use Rattle.std.specs.declared.cmp.Ordering.TheVariants.{Less, Equal, Greater}
 use Rattle.hy_terms.specs.Term.{Term, Int, Atom, Pid, Nil, Cons, Tuple, Terms, NoTerms, MoreTerms, size_of}
 use Rattle.hy_terms.specs.Naming.{one_on}
+use Rattle.hy_terms.specs.Range.{least_number, greatest_number}
 use Rattle.hy_terms.specs.TermOrder.{compare}
 use Rattle.hy_core.specs.declared.bif.Bif.{Bif}
 use Rattle.hy_core.specs.declared.bif.Bif.TheVariants as b
 use Rattle.hy_core.specs.declared.class.Class.{Class}
 use Rattle.hy_core.specs.declared.class.Class.TheVariants.{Error, Exit, Throw}
 
--- a value, or what is raised
+-- a value, what is raised, or none: the built-in has another number of arguments
 pub data Answer : Type 0 where
   Value : Term → Answer
   Raises : Class → Term → Answer
+  NoAnswer : Answer
 
 -- the atoms with which the table of each program begins: this project's own
 abbrev pub own_atoms : List (List ℕ)
@@ -89,7 +91,7 @@ is_tuple _ = false
 -- a number from -2^59 to 2^59 - 1
 abbrev pub in_range : ℤ → Answer
 in_range n =
-    if int_le (negsuc 576460752303423487) n && int_le n (pos 576460752303423487) then Value (Int n)
+    if int_le least_number n && int_le n greatest_number then Value (Int n)
     else system_limit
 
 abbrev pub on_number : Answer → (ℤ → Answer) → Option ℤ → Answer
@@ -211,15 +213,15 @@ size_answer _ = badarg
 -- a call has as many arguments as its built-in takes
 abbrev pub of_none : Answer → List Term → Answer
 of_none f [] = f
-of_none f _ = badarg
+of_none f _ = NoAnswer
 
 abbrev pub of_one : (Term → Answer) → List Term → Answer
 of_one f (t ∷ []) = f t
-of_one f _ = badarg
+of_one f _ = NoAnswer
 
 abbrev pub of_two : (Term → Term → Answer) → List Term → Answer
 of_two f (t ∷ u ∷ []) = f t u
-of_two f _ = badarg
+of_two f _ = NoAnswer
 
 -- a test of a term's kind gives a truth value
 abbrev pub test : (Term → Bool) → List Term → Answer

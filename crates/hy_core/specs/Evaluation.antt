@@ -12,7 +12,7 @@ use Rattle.hy_core.specs.Event.{Event, Sent, Spawned, Printed}
 use Rattle.hy_core.specs.Resolved as r
 use Rattle.hy_core.specs.Resolved.{Patterns, Head, BuiltIn, Function, Local, Setelement, Send, Spawn, Display, Raising, MatchFail, Timeout, AtOnce, Never, Expression, Expressions, NoExpressions, MoreExpressions, Clauses, NoClauses, MoreClauses, Functions, NoFunctions, MoreFunctions, FunctionTree, is_name}
 use Rattle.hy_core.specs.Match.{Env, Empty, Bound, Locals, lookup, bind_variables, match_all}
-use Rattle.hy_core.specs.BuiltIn.{Answer, Value, Raises, answer, truth, badarg, no_clause, function_clause, with_element, or_badarg}
+use Rattle.hy_core.specs.BuiltIn.{Answer, Value, Raises, NoAnswer, answer, truth, badarg, no_clause, function_clause, with_element, or_badarg}
 
 -- a function of the program, or of a letrec, with the environment of that letrec
 pub data Callee : Type 0 where
@@ -63,11 +63,13 @@ value_of (Some t) = give t
 abbrev pub answered : Answer → Doing
 answered (Value t) = give t
 answered (Raises class reason) = Raise class reason
+answered NoAnswer = Fault
 
 -- the ends of an answer and of a variable
 abbrev pub answer_end : Answer → Outcome Term Class Wait
 answer_end (Value t) = Values (t ∷ [])
 answer_end (Raises class reason) = Raised class reason
+answer_end NoAnswer = Wrong
 
 abbrev pub value_end : Option Term → Outcome Term Class Wait
 value_end None = Wrong
@@ -107,9 +109,13 @@ fail_reason (term.Tuple (MoreTerms (term.Atom a) ts)) = if a == 6 then function_
 fail_reason t = t
 
 -- a send is an event and gives its message; its target has to be a pid
+abbrev pub send_to : Term → Term → Doing
+send_to (term.Pid to) t = Act (Sent to t) (give t)
+send_to _ t = answered badarg
+
 abbrev pub send : List Term → Doing
-send (term.Pid to ∷ t ∷ []) = Act (Sent to t) (give t)
-send _ = answered badarg
+send (to ∷ t ∷ []) = send_to to t
+send _ = Fault
 
 -- a print is an event and gives 'true'
 abbrev pub display : List Term → Doing
@@ -197,6 +203,10 @@ abbrev pub function_named : FunName → Functions → Option FunctionTree
 function_named f NoFunctions = None
 function_named f (MoreFunctions g xs e fs) = if is_name g f then Some (record { parameters = xs; body = e }) else function_named f fs
 
+-- events, calls left, inputs left, and how far it came
+abbrev pub Evaluated : Type 0
+Evaluated = Result Term Class (Event Term) Wait
+
 module _ (program : List FunctionTree) (atoms : List (List ℕ)) (pid : ℕ) where
   abbrev pub enter : Option FunctionTree → List Term → Env → Doing
   enter None ts env = Fault
@@ -206,10 +216,6 @@ module _ (program : List FunctionTree) (atoms : List (List ℕ)) (pid : ℕ) whe
   abbrev pub body_of : Callee → List Term → Doing
   body_of (Top f) ts = enter (slice_get program f) ts Empty
   body_of (Inner f fs env) ts = enter (function_named f fs) ts (Locals fs env)
-
-  -- events, calls left, inputs left, and how far it came
-  abbrev pub Evaluated : Type 0
-  Evaluated = Result Term Class (Event Term) Wait
 
   -- a computation, with so many calls and these inputs: a call does nothing that others see
   abbrev pub run_of : (calls : ℕ) → Doing → List (Input Term) → Run Term Class (Event Term) Wait

@@ -26,7 +26,7 @@ one_value t = Values (t ∷ [])
 
 module _ (program : List FunctionTree) (atoms : List (List ℕ)) (pid : ℕ) where
   -- expressions from left to right, each of one value
-  abbrev pub eval_all : (calls : ℕ) → Env → Expressions → List (Input Term) → Evaluated program atoms pid
+  abbrev pub eval_all : (calls : ℕ) → Env → Expressions → List (Input Term) → Evaluated
   eval_all calls env es inputs = evaluated program atoms pid calls (denote_all atoms pid es env) inputs
 
   abbrev pub closed : Option Env → (Env → Bool) → Expression → Option Closed → Option Closed
@@ -39,61 +39,66 @@ module _ (program : List FunctionTree) (atoms : List (List ℕ)) (pid : ℕ) whe
   chosen (MoreClauses ps guard body cs) ts env = closed (match_all ps ts env) (λ env'. holds (denote atoms pid guard env')) body (chosen cs ts env)
 
   -- the body of a clause, or an end where there is none
-  abbrev pub eval_chosen : Outcome Term Class Wait → Option Closed → (calls : ℕ) → List (Input Term) → Evaluated program atoms pid
+  abbrev pub eval_chosen : Outcome Term Class Wait → Option Closed → (calls : ℕ) → List (Input Term) → Evaluated
   eval_chosen otherwise None calls inputs = ended calls inputs otherwise
   eval_chosen otherwise (Some c) calls inputs = eval program atoms pid calls c.env c.body inputs
 
-  abbrev pub eval_in : Option Env → Expression → (calls : ℕ) → List (Input Term) → Evaluated program atoms pid
+  abbrev pub eval_in : Option Env → Expression → (calls : ℕ) → List (Input Term) → Evaluated
   eval_in None e calls inputs = ended calls inputs Wrong
   eval_in (Some env) e calls inputs = eval program atoms pid calls env e inputs
 
   -- a call costs one call, and gives one value
-  abbrev pub called : Callee → List Term → (calls : ℕ) → List (Input Term) → Evaluated program atoms pid
+  abbrev pub called : Callee → List Term → (calls : ℕ) → List (Input Term) → Evaluated
   called f ts zero inputs = ended zero inputs Spent
   called f ts (suc calls) inputs = then_run (evaluated program atoms pid calls (body_of program atoms pid f ts) inputs) (with_one (λ t m jns. ended m jns (one_value t)))
 
-  abbrev pub called_if : Option Callee → List Term → (calls : ℕ) → List (Input Term) → Evaluated program atoms pid
+  abbrev pub called_if : Option Callee → List Term → (calls : ℕ) → List (Input Term) → Evaluated
   called_if None ts calls inputs = ended calls inputs Wrong
   called_if (Some f) ts calls inputs = called f ts calls inputs
 
   -- a spawn is an event, and then waits for the pid of the child
-  abbrev pub spawned : (function : ℕ) → List Term → (calls : ℕ) → List (Input Term) → Evaluated program atoms pid
+  abbrev pub spawned : (function : ℕ) → List Term → (calls : ℕ) → List (Input Term) → Evaluated
   spawned f ts calls [] = record { events = Spawned f ts ∷ []; calls = calls; inputs = []; end = NeedsPid }
   spawned f ts calls (Born child ∷ inputs) = record { events = Spawned f ts ∷ []; calls = calls; inputs = inputs; end = one_value (term.Pid child) }
   spawned f ts calls (Got t ∷ inputs) = record { events = Spawned f ts ∷ []; calls = calls; inputs = Got t ∷ inputs; end = Wrong }
   spawned f ts calls (Lapsed ∷ inputs) = record { events = Spawned f ts ∷ []; calls = calls; inputs = Lapsed ∷ inputs; end = Wrong }
 
-  abbrev pub lapsed : Timeout → Env → Expression → (calls : ℕ) → List (Input Term) → Evaluated program atoms pid
+  abbrev pub lapsed : Timeout → Env → Expression → (calls : ℕ) → List (Input Term) → Evaluated
   lapsed AtOnce env e calls inputs = eval program atoms pid calls env e inputs
   lapsed Never env e calls inputs = ended calls inputs Wrong
 
   -- a receive uses one input: a message that a clause accepts, or a lapse
-  abbrev pub received : Env → Clauses → Timeout → Expression → (calls : ℕ) → List (Input Term) → Evaluated program atoms pid
+  abbrev pub received : Env → Clauses → Timeout → Expression → (calls : ℕ) → List (Input Term) → Evaluated
   received env cs timeout e calls [] = ended calls [] (Needs (record { env = env; clauses = cs; timeout = timeout }))
   received env cs timeout e calls (Got t ∷ inputs) = eval_chosen Wrong (chosen cs (t ∷ []) env) calls inputs
   received env cs timeout e calls (Lapsed ∷ inputs) = lapsed timeout env e calls inputs
   received env cs timeout e calls (Born child ∷ inputs) = ended calls (Born child ∷ inputs) Wrong
 
-  abbrev pub sent : List Term → (calls : ℕ) → List (Input Term) → Evaluated program atoms pid
-  sent (term.Pid to ∷ t ∷ []) calls inputs = record { events = Sent to t ∷ []; calls = calls; inputs = inputs; end = one_value t }
-  sent _ calls inputs = ended calls inputs (answer_end badarg)
+  abbrev pub sent_to : Term → Term → (calls : ℕ) → List (Input Term) → Evaluated
+  sent_to (term.Pid to) t calls inputs =
+      record { events = Sent to t ∷ []; calls = calls; inputs = inputs; end = one_value t }
+  sent_to _ t calls inputs = ended calls inputs (answer_end badarg)
 
-  abbrev pub built : (List Term → Term) → List Term → (calls : ℕ) → List (Input Term) → Evaluated program atoms pid
+  abbrev pub sent : List Term → (calls : ℕ) → List (Input Term) → Evaluated
+  sent (to ∷ t ∷ []) calls inputs = sent_to to t calls inputs
+  sent _ calls inputs = ended calls inputs Wrong
+
+  abbrev pub built : (List Term → Term) → List Term → (calls : ℕ) → List (Input Term) → Evaluated
   built f ts calls inputs = ended calls inputs (one_value (f ts))
 
 -- a part that does not give values gives its end to the whole, and what follows it does not happen
 abbrev pub PartEndsWhole : Type 0
-PartEndsWhole = (program : List FunctionTree) (atoms : List (List ℕ)) (pid : ℕ) (part : Evaluated program atoms pid) (follows : List Term → ℕ → List (Input Term) → Evaluated program atoms pid) → ((ts : List Term) → part.end ≡ Values ts → ⊥) → then_run part follows ≡ part
+PartEndsWhole = (program : List FunctionTree) (atoms : List (List ℕ)) (pid : ℕ) (part : Evaluated) (follows : List Term → ℕ → List (Input Term) → Evaluated) → ((ts : List Term) → part.end ≡ Values ts → ⊥) → then_run part follows ≡ part
 
 -- where a part gives values its events stand before those of what follows
 abbrev pub PartComesFirst : Type 0
-PartComesFirst = (program : List FunctionTree) (atoms : List (List ℕ)) (pid : ℕ) (events : List (Event Term)) (calls : ℕ) (inputs : List (Input Term)) (ts : List Term) (follows : List Term → ℕ → List (Input Term) → Evaluated program atoms pid) → (then_run (record { events = events; calls = calls; inputs = inputs; end = Values ts }) follows).events ≡ events ++ (follows ts calls inputs).events
+PartComesFirst = (program : List FunctionTree) (atoms : List (List ℕ)) (pid : ℕ) (events : List (Event Term)) (calls : ℕ) (inputs : List (Input Term)) (ts : List Term) (follows : List Term → ℕ → List (Input Term) → Evaluated) → (then_run (record { events = events; calls = calls; inputs = inputs; end = Values ts }) follows).events ≡ events ++ (follows ts calls inputs).events
 
 module _ (program : List FunctionTree) (atoms : List (List ℕ)) (pid : ℕ) (calls : ℕ) (env : Env) (inputs : List (Input Term)) where
-  abbrev eval_now : Expression → Evaluated program atoms pid
+  abbrev eval_now : Expression → Evaluated
   eval_now e = eval program atoms pid calls env e inputs
 
-  abbrev gives : Term → Evaluated program atoms pid
+  abbrev gives : Term → Evaluated
   gives t = ended calls inputs (one_value t)
 
   -- numbers, atoms, nil and strings give themselves, a variable what it is bound to

@@ -10,8 +10,8 @@ use Rattle.hy_core.specs.declared.info.FunInfo.{FunInfo}
 use Rattle.hy_core.specs.declared.step.Step.{Step}
 use Rattle.hy_core.specs.declared.tree.Module.{Module}
 use Rattle.hy_core.specs.Computation.{Input}
-use Rattle.hy_core.specs.Evaluation.{Evaluated, evaluated, body_of, Top, accepts}
-use Rattle.hy_core.specs.Machine.{Process, Configuration, after_steps, start, IsFull}
+use Rattle.hy_core.specs.Evaluation.{Evaluated, Wait, evaluated, body_of, Top, accepts}
+use Rattle.hy_core.specs.Machine.{Behaviour, Process, Configuration, after_steps, start, IsFull}
 use Rattle.hy_core.specs.Output.{run_output}
 use Rattle.hy_core.specs.Resolve.{Names, function_trees}
 use Rattle.hy_core.specs.Resolved.{FunctionTree}
@@ -30,16 +30,21 @@ NeverStopped p cause = ⊥
 -- limit: the calls of each process
 module _ (program : List FunctionTree) (atoms : List (List ℕ)) (limit : ℕ) where
   -- what a process does: its function's body under its arguments; the start call costs no call
-  abbrev pub runs_of : (pid function : ℕ) → List Term → List (Input Term) → Evaluated program atoms pid
+  abbrev pub runs_of : (pid function : ℕ) → List Term → List (Input Term) → Evaluated
   runs_of pid function arguments inputs = evaluated program atoms pid limit (body_of program atoms pid (Top function) arguments) inputs
+
+  -- how the processes of the program behave
+  abbrev pub behaviour_of : Behaviour Term Wait
+  behaviour_of =
+      record { runs = runs_of; accepts = accepts atoms; timeout = λ wait. wait.timeout; text_of = term_text atoms }
 
   -- the configuration after a run of the program
   abbrev pub after_run : (main : ℕ) → List Step → Option (Configuration Term)
-  after_run main steps = after_steps runs_of (accepts atoms) (λ wait. wait.timeout) (term_text atoms) steps (Some (start main))
+  after_run main steps = after_steps behaviour_of steps (Some (start main))
 
   -- a full run of the program with these ends, and its output
   pub record IsFullRun (stopped : Process Term → Cause → Type 0) (main : ℕ) (steps : List Step) (ends : List End) (output : List ℕ) : Type 0 where
-    pub full : IsFull runs_of (accepts atoms) (λ wait. wait.timeout) (term_text atoms) stopped main steps ends
+    pub full : IsFull behaviour_of stopped main steps ends
     pub writes : run_output full.last ends ≡ output
 
 -- the first module's 'main'/0

@@ -78,19 +78,26 @@ first_accepted accepts (m ∷ ms) = if accepts m.term then Some m else first_acc
 abbrev pub if_at : {A : Type 0} → ℕ → ℕ → A → Option A
 if_at m n x = if m == n then Some x else None
 
--- runs: what a process does, by its pid, function, arguments and inputs; accepts: what a receive of a
--- process accepts; text_of: the text of a value
-module _ {V W : Type 0} (runs : ℕ → ℕ → List V → List (Input V) → Result V Class (Event V) W) (accepts : ℕ → W → V → Bool) (timeout : W → Timeout) (text_of : V → List ℕ) where
+-- how single processes behave, over values V and what a receive waits for, W
+pub record Behaviour (V W : Type 0) : Type 0 where
+  -- what a process does, by its pid, function, arguments and inputs
+  pub runs : (pid function : ℕ) → List V → List (Input V) → Result V Class (Event V) W
+  -- whether a receive of a process accepts a message
+  pub accepts : (pid : ℕ) → W → V → Bool
+  pub timeout : W → Timeout
+  pub text_of : V → List ℕ
+
+module _ {V W : Type 0} (behaviour : Behaviour V W) where
   -- a process's activity
   abbrev pub activity : Process V → Result V Class (Event V) W
-  activity p = runs p.pid p.function p.arguments p.inputs
+  activity p = behaviour.runs p.pid p.function p.arguments p.inputs
 
   -- the event of process pid at the next place
   abbrev pub carried_out : (pid : ℕ) → Event V → Configuration V → Configuration V
   carried_out pid (Sent to t) c = record c { processes = with_process to (with_message c.events t) c.processes; events = suc c.events }
   carried_out pid (Spawned f ts) c =
       record c { processes = with_process pid (with_input (Born (suc c.events))) c.processes ++ fresh (suc c.events) f ts ∷ []; events = suc c.events }
-  carried_out pid (Printed t) c = record c { output = c.output ++ (text_of t ++ 10 ∷ []); events = suc c.events }
+  carried_out pid (Printed t) c = record c { output = c.output ++ (behaviour.text_of t ++ 10 ∷ []); events = suc c.events }
 
   -- an event stands at the place that is the number of events before it
   abbrev pub event_step : ℕ → Process V → Option (Event V) → Configuration V → Option (Configuration V)
@@ -110,11 +117,11 @@ module _ {V W : Type 0} (runs : ℕ → ℕ → List V → List (Input V) → Re
   lapse_of seen p Never m c = None
 
   abbrev pub take_step : ℕ → Process V → Outcome V Class W → Configuration V → Option (Configuration V)
-  take_step place p (Needs w) c = take_of place p (first_accepted (accepts p.pid w) p.mailbox) c
+  take_step place p (Needs w) c = take_of place p (first_accepted (behaviour.accepts p.pid w) p.mailbox) c
   take_step place p _ c = None
 
   abbrev pub lapse_step : ℕ → Process V → Outcome V Class W → Configuration V → Option (Configuration V)
-  lapse_step seen p (Needs w) c = lapse_of seen p (timeout w) (first_accepted (accepts p.pid w) p.mailbox) c
+  lapse_step seen p (Needs w) c = lapse_of seen p (behaviour.timeout w) (first_accepted (behaviour.accepts p.pid w) p.mailbox) c
   lapse_step seen p _ c = None
 
   -- all events of the process are carried out
@@ -151,22 +158,22 @@ module _ {V W : Type 0} (runs : ℕ → ℕ → List V → List (Input V) → Re
     pub through : IsThrough p
     pub value : V
     pub end : (activity p).end ≡ Values (value ∷ [])
-    pub printed : text_of value ≡ text
+    pub printed : behaviour.text_of value ≡ text
 
   -- it raised, with this class and this text of the reason
   pub record HasRaised (p : Process V) (class : Class) (text : List ℕ) : Type 0 where
     pub through : IsThrough p
     pub reason : V
     pub end : (activity p).end ≡ outcome.Raised class reason
-    pub printed : text_of reason ≡ text
+    pub printed : behaviour.text_of reason ≡ text
 
   -- it waits for good: without a timeout, and with no message that it accepts
   pub record IsWaiting (p : Process V) : Type 0 where
     pub events : p.done ≡ length (activity p).events
     pub wait : W
     pub end : (activity p).end ≡ Needs wait
-    pub never : timeout wait ≡ Never
-    pub none : first_accepted (accepts p.pid wait) p.mailbox ≡ None
+    pub never : behaviour.timeout wait ≡ Never
+    pub none : first_accepted (behaviour.accepts p.pid wait) p.mailbox ≡ None
 
   -- the process has come to this end; stopped says when it is stopped with a cause
   abbrev pub IsAt : (stopped : Process V → Cause → Type 0) → Process V → End → Type 0

@@ -21,5 +21,5 @@ first_argument place = inside (inside (inside place))
 -- which the expression stands and the process that evaluates it. The names have the same table of atoms,
 -- unless no number of an atom in the trees is one of a term.
 module _ (program : List FunctionTree) (atoms : List (List ℕ)) (names : Names) (current pid : ℕ) where
-  abbrev pub meaning : List FunName → Place → (calls : ℕ) → Env → Expr → List (Input Term) → Evaluated program atoms pid
+  abbrev pub meaning : List FunName → Place → (calls : ℕ) → Env → Expr → List (Input Term) → Evaluated
   meaning locals place calls env e inputs = eval program atoms pid calls env (resolved names current locals place e) inputs

@@ -1,5 +1,5 @@
 -- What a run writes: this project's own texts.
-use Rattle.std.specs.Prelude.{ℕ, List, [], ◌∷◌, ◌++◌, codes}
+use Rattle.std.specs.Prelude.{ℕ, List, [], ◌∷◌, ◌++◌, map, codes}
 use Rattle.std.specs.Fmt.{decimal}
 use Rattle.hy_core.specs.declared.class.Class.{Class}
 use Rattle.hy_core.specs.declared.class.Class.TheVariants.{Error, Exit, Throw}
@@ -7,7 +7,7 @@ use Rattle.hy_core.specs.declared.end.Cause.{Cause}
 use Rattle.hy_core.specs.declared.end.Cause.TheVariants.{Calls, Heap, Area, Log, Memory}
 use Rattle.hy_core.specs.declared.end.End.{End}
 use Rattle.hy_core.specs.declared.end.End.TheVariants.{Ended, Raised, Waits, Stopped}
-use Rattle.hy_core.specs.Machine.{Process, Configuration}
+use Rattle.hy_core.specs.Machine.{Configuration}
 
 abbrev pub class_text : Class → List ℕ
 class_text Error = codes "error"
@@ -31,11 +31,12 @@ end_text (Stopped cause) = codes "stopped " ++ cause_text cause
 abbrev pub outcome_line : (pid : ℕ) → End → List ℕ
 outcome_line pid end = decimal pid ++ codes " " ++ end_text end ++ 10 ∷ []
 
-abbrev pub outcome_lines : {V : Type 0} → List (Process V) → List End → List ℕ
+-- one outcome line for each pid
+abbrev pub outcome_lines : (pids : List ℕ) → List End → List ℕ
 outcome_lines [] ends = []
-outcome_lines (p ∷ ps) [] = []
-outcome_lines (p ∷ ps) (e ∷ es) = outcome_line p.pid e ++ outcome_lines ps es
+outcome_lines (pid ∷ pids) [] = []
+outcome_lines (pid ∷ pids) (end ∷ ends) = outcome_line pid end ++ outcome_lines pids ends
 
 -- the output of a run that is full with these ends
 abbrev pub run_output : {V : Type 0} → Configuration V → List End → List ℕ
-run_output last ends = last.output ++ outcome_lines last.processes ends
+run_output last ends = last.output ++ outcome_lines (map (λ p. p.pid) last.processes) ends

@@ -42,7 +42,7 @@ module _ (name : ℕ) (exports : List FunName) (main : ℕ) (x : Expr) (s : Tabl
   abbrev whole : Module
   whole = main_module name exports main x s
 
-  abbrev does : Evaluated (program_of whole) own_atoms 0
+  abbrev does : Evaluated
   does = runs_of (program_of whole) own_atoms calls_limit 0 0 [] []
 
   comes : (values : List Value) (ending : Ending) → EvaluatesTo x [] values ending → IsBuilt s.atoms [] x → does ≡ record { events = displays values; calls = calls_limit; inputs = []; end = outcome_of ending }
