@@ -1,4 +1,5 @@
 pub mod AloneLemmas
+pub mod Behaving
 pub mod BuiltParts
 pub mod Comparing
 pub mod Forms
@@ -7,6 +8,7 @@ pub mod Meanings
 pub mod Resolving
 pub mod Rules
 pub mod Runs
+pub mod SameEnds
 pub mod Simulating
 pub mod Source
 pub mod Timing

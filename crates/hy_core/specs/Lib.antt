@@ -1,6 +1,7 @@
 pub use Rattle.hy_terms.specs.Naming
 pub mod Alone
 pub mod Annotations
+pub mod BehaviourLaws
 pub mod BuiltIn
 pub mod BuiltInTable
 pub mod Built
@@ -35,6 +36,7 @@ pub mod Refusals
 pub mod Resolve
 pub mod ResolvedExample
 pub mod Resolved
+pub mod SameBehaviour
 pub mod Simulation
 pub mod SimulationLaws
 pub mod Sites
