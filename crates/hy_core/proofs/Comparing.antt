@@ -5,10 +5,11 @@ use Rattle.std.proofs.lemmas.List.{map-id}
 use Rattle.std.proofs.lemmas.Simd.{map-map}
 use Rattle.std.specs.List.{filter_map, cons_option}
 use Rattle.std.specs.Option.{option_map, option_and_then}
-use Rattle.hy_core.specs.Comparison.{map_input, Waiting, shown_moment, SameEnd}
-use Rattle.hy_core.specs.Comparison.{SameRun, SameResult}
+use Rattle.hy_core.specs.Comparison.{map_input, map_event, Waiting, shown_moment, SameEnd}
+use Rattle.hy_core.specs.Comparison.{SameRun, SameResult, events_only}
 use Rattle.hy_core.specs.Computation.{Input, Got, Lapsed, Born, Outcome, Values, Raised, Needs}
 use Rattle.hy_core.specs.Computation.{NeedsPid, Spent, Wrong, Moment, Did, Used, Run, dones, result_of}
+use Rattle.hy_core.specs.Event.{Event, Sent, Spawned, Printed}
 
 -- each value for itself
 
@@ -17,7 +18,7 @@ map_input-id (Got v) = refl
 map_input-id Lapsed = refl
 map_input-id (Born pid) = refl
 
-map_inputs-id : {V : Type 0} (is : List (Input V)) → map (map_input (λ v. v)) is ≡ is
+pub map_inputs-id : {V : Type 0} (is : List (Input V)) → map (map_input (λ v. v)) is ≡ is
 map_inputs-id is = ap (λ f. map f is) (fun_ext map_input-id) ∙ map-id is
 
 moments-id : {V B : Type 0} (ms : List (Moment V B)) → filter_map (shown_moment (λ v. v) Some) ms ≡ ms
@@ -150,3 +151,37 @@ module _ {V C W : Type 0} (waiting : Waiting V W) where
       let inputs = sym (map_inputs-id r'.inputs) ∙ s.inputs in
       let end = equal_end r.end r'.end s.end n in
       λ i. record { moments = moments i; calls = s.calls i; inputs = inputs i; end = end i }
+
+-- events alone
+seen_first : {E E' : Type 0} (seen : E' → E) (o : Option E') → option_and_then (λ e. Some (seen e)) o ≡ option_map seen o
+seen_first seen None = refl
+seen_first seen (Some e) = refl
+
+module _ {V V' C B' E E' W W' : Type 0} (value : V' → V) (waiting : Waiting V W) (waiting' : Waiting V' W') (event : B' → Option E') (seen : E' → E) where
+  pub same_events : (r : Run V C E W) (r' : Run V' C B' W') → SameRun value waiting waiting' (λ b. option_map seen (event b)) r r' → SameResult value waiting waiting' (λ e. Some (seen e)) (result_of r) (events_only event r')
+  same_events r r' s =
+      let shown : B' → Option E = λ b. option_map seen (event b) in
+      let all = same_result value waiting waiting' shown r r' s in
+      record {
+        events = filter_map-through (λ e. Some (seen e)) event (dones r'.moments) ∙ ap (λ f. filter_map f (dones r'.moments)) (fun_ext λ b. seen_first seen (event b)) ∙ all.events;
+        calls = s.calls;
+        inputs = s.inputs;
+        end = s.end;
+      }
+
+map_event-id : {V : Type 0} (e : Event V) → map_event (λ v. v) e ≡ e
+map_event-id (Sent to t) = refl
+map_event-id (Spawned f ts) = ap (Spawned f) (map-id ts)
+map_event-id (Printed t) = refl
+
+-- where the values are the same, each event is shown as it is
+module _ {V C W W' : Type 0} (waiting : Waiting V W) (waiting' : Waiting V W') where
+  pub same_events_here : (r : Run V C (Event V) W) (r' : Run V C (Event V) W') → SameRun (λ v. v) waiting waiting' Some r r' → SameResult (λ v. v) waiting waiting' (λ e. Some (map_event (λ v. v) e)) (result_of r) (result_of r')
+  same_events_here r r' s =
+      let all = same_result (λ v. v) waiting waiting' Some r r' s in
+      record {
+        events = ap (λ f. filter_map f (dones r'.moments)) (fun_ext λ e. ap Some (map_event-id e)) ∙ all.events;
+        calls = s.calls;
+        inputs = s.inputs;
+        end = s.end;
+      }

@@ -9,6 +9,7 @@ pub mod Resolving
 pub mod Rules
 pub mod Runs
 pub mod SameEnds
+pub mod SamePrograms
 pub mod Simulating
 pub mod Source
 pub mod Timing

@@ -37,6 +37,7 @@ pub mod Resolve
 pub mod ResolvedExample
 pub mod Resolved
 pub mod SameBehaviour
+pub mod SameProgram
 pub mod Simulation
 pub mod SimulationLaws
 pub mod Sites

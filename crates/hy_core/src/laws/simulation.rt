@@ -1,4 +1,5 @@
-ghost use Rattle.std.specs.Prelude.{List};
+ghost use Rattle.std.specs.Prelude.{ℕ, List};
+ghost use Rattle.hy_core.specs.BehaviourLaws.{SameFullRuns, SameProgramsRun, SameStepsAllowed};
 ghost use Rattle.hy_core.specs.ComparisonLaws.{
   ComparesWithItself,
   Composes,
@@ -6,6 +7,9 @@ ghost use Rattle.hy_core.specs.ComparisonLaws.{
   SameIsEqual,
   WaitsAlike,
 };
+ghost use Rattle.hy_core.specs.Machine.{Process};
+ghost use Rattle.hy_core.specs.declared.end.Cause.{Cause};
+ghost use Rattle.hy_terms.specs.Term.{Term};
 ghost use Rattle.hy_core.specs.SimulationLaws.{
   GoesThroughParts,
   RunsTheSame,
@@ -123,4 +127,41 @@ pub fn simulation_keeps_runs<
 where
     Relation: Correspondence<Value, Callee, Act, NextValue, NextCallee>,
     ensures { RunsTheSame Class NextAct Wait NextWait Relation.allowed Relation.calls Done }
+{}
+
+/// Which functions a process may begin with, and which processes are stopped, with which cause.
+pub trait Setting<Value> {
+    ghost known: { ℕ → Type 0 };
+
+    ghost stopped: { Process Value → Cause → Type 0 };
+}
+
+/// Of processes that behave the same, the machine allows the same steps. After the same steps they stand
+/// the same, and have written the same.
+pub fn same_steps_are_allowed<Value, NextValue, Wait, NextWait, S>()
+where
+    S: Setting<Value>,
+    ensures { SameStepsAllowed Value NextValue Wait NextWait S.known }
+{}
+
+/// Of processes that behave the same, the same runs are full, with the same ends and the same output.
+pub fn same_runs_are_full<Value, NextValue, Wait, NextWait, S>()
+where
+    S: Setting<Value>,
+    ensures { SameFullRuns Value NextValue Wait NextWait S.known S.stopped }
+{}
+
+/// The same of a program's processes.
+pub trait ProgramSetting {
+    ghost known: { ℕ → Type 0 };
+
+    ghost stopped: { Process Term → Cause → Type 0 };
+}
+
+/// Where the functions of two programs do the same in each process, with all arguments and inputs, each
+/// full run of one is a full run of the other, with the same ends and the same output.
+pub fn same_programs_have_the_same_runs<S>()
+where
+    S: ProgramSetting,
+    ensures { SameProgramsRun S.known S.stopped }
 {}
