@@ -9,11 +9,12 @@ use Rattle.hy_core.specs.declared.class.Class.{Class}
 use Rattle.hy_core.specs.declared.step.Item.{Item}
 use Rattle.hy_core.specs.declared.step.Item.TheVariants as item
 use Rattle.hy_core.specs.declared.step.Step.{Step}
-use Rattle.hy_core.specs.Comparison.{map_input, map_event, SameEnd, SameResult}
-use Rattle.hy_core.specs.Computation.{Input, Got, Lapsed, Born, Outcome, Values, Raised, Needs, NeedsPid, Spent, Wrong}
+use Rattle.hy_core.specs.Comparison.{map_input, map_event, SameEnd, SameRun, SameResult, events_only}
+use Rattle.hy_core.specs.Computation.{Input, Got, Lapsed, Born, Outcome, Values, Raised, Needs, NeedsPid, Spent, Wrong, Run, dones, result_of}
 use Rattle.hy_core.specs.Event.{Event, Sent, Spawned, Printed}
 use Rattle.hy_core.specs.Machine.{Message, Process, Configuration, Behaviour, fresh, process_of, with_process, with_input, with_event_done, with_message, with_taken, without, first_accepted, if_at, activity, carried_out, event_step, take_of, lapse_of, take_step, lapse_step, is_done, process_step, step_of, after_step, after_steps, start}
 use Rattle.hy_core.specs.Resolved.{Timeout, AtOnce, Never}
+use Rattle.hy_core.proofs.Comparing.{same_events}
 use Rattle.hy_core.specs.SameBehaviour.{map_message, map_process, map_configuration, waiting_of, SpawnsOf, SameBehaviour}
 
 all_shown : {X Y : Type 0} (f : X → Y) (xs : List X) → filter_map (λ x. Some (f x)) xs ≡ map f xs
@@ -273,7 +274,7 @@ module _ {V V' W W' : Type 0} (value : V' → V) (Known : ℕ → Type 0) (b : B
   spawns_known p known k e at =
       let first = activity b (map_process value p) in
       let found : slice_get first.events k ≡ Some (map_event value e) =
-          ap (λ es. slice_get es k) (events_are value Known b b' same p (does_same p known)) ∙ slice_get-map (map_event value) (activity b' p).events k ∙ ap (option_map (map_event value)) at in
+      ap (λ es. slice_get es k) (events_are value Known b b' same p (does_same p known)) ∙ slice_get-map (map_event value) (activity b' p).events k ∙ ap (option_map (map_event value)) at in
       spawns_mapped value Known e (all_at (SpawnsOf Known) first.events k (map_event value e) (same.spawns p.pid p.function known p.arguments p.inputs) found)
 
   step_mapped : (i : Item) (o : Option (Process V')) (c : Configuration V') → ((p : Process V') → o ≡ Some p → Known p.function) → step_of b i (option_map (map_process value) o) (map_configuration value c) ≡ option_map (map_configuration value) (step_of b' i o c)
@@ -307,3 +308,18 @@ module _ {V V' W W' : Type 0} (value : V' → V) (Known : ℕ → Type 0) (b : B
   -- all steps from the start on
   pub steps_mapped : (main : ℕ) → Known main → (steps : List Step) → after_steps b steps (Some (start main)) ≡ option_map (map_configuration value) (after_steps b' steps (Some (start main)))
   steps_mapped main known steps = after_all_mapped steps (Some (start main)) (known, tt)
+
+-- the same runs make the same behaviour
+module _ {V V' B W W' : Type 0} (value : V' → V) (Known : ℕ → Type 0) (event : B → Option (Event V')) (runs : (pid f : ℕ) → List V → List (Input V) → Run V Class (Event V) W) (runs' : (pid f : ℕ) → List V' → List (Input V') → Run V' Class B W') (accepts : ℕ → W → V → Bool) (accepts' : ℕ → W' → V' → Bool) (timeout : W → Timeout) (timeout' : W' → Timeout) (text_of : V → List ℕ) where
+  abbrev first : Behaviour V W
+  first = record { runs = λ pid f vs is. result_of (runs pid f vs is); accepts = accepts; timeout = timeout; text_of = text_of }
+
+  abbrev second : Behaviour V' W'
+  second = record { runs = λ pid f us is. events_only event (runs' pid f us is); accepts = accepts'; timeout = timeout'; text_of = λ u. text_of (value u) }
+
+  pub same_behaviour : ((pid f : ℕ) → Known f → (us : List V') (is : List (Input V')) → SameRun value (waiting_of first pid) (waiting_of second pid) (λ b. option_map (map_event value) (event b)) (runs pid f (map value us) (map (map_input value) is)) (runs' pid f us is) × All (SpawnsOf Known) (dones (runs pid f (map value us) (map (map_input value) is)).moments)) → SameBehaviour value Known first second
+  same_behaviour h = record {
+    runs = λ pid f k us is. same_events value (waiting_of first pid) (waiting_of second pid) event (map_event value) (runs pid f (map value us) (map (map_input value) is)) (runs' pid f us is) (h pid f k us is).0;
+    spawns = λ pid f k us is. (h pid f k us is).1;
+    texts = λ u. refl;
+  }

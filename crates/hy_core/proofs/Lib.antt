@@ -11,6 +11,7 @@ pub mod Runs
 pub mod SameEnds
 pub mod SamePrograms
 pub mod Simulating
+pub mod SimulatingHere
 pub mod Source
 pub mod Timing
 pub mod WorkedRuns

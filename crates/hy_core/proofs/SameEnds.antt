@@ -165,8 +165,7 @@ module _ {V V' W W' : Type 0} (value : V' → V) (Known : ℕ → Type 0) (b : B
 
       pub full_forth : HasFullRun b' (λ q cause. stopped (map_process value q) cause) main steps ends output → HasFullRun b stopped main steps ends output
       full_forth h =
-          let last = h.0.last in
-          (
+          let last = h.0.last in (
             record {
               last = map_configuration value last;
               allowed = steps_mapped value Known b b' same main known steps ∙ ap (option_map (map_configuration value)) h.0.allowed;
@@ -178,8 +177,7 @@ module _ {V V' W W' : Type 0} (value : V' → V) (Known : ℕ → Type 0) (b : B
       pub full_back : HasFullRun b stopped main steps ends output → HasFullRun b' (λ q cause. stopped (map_process value q) cause) main steps ends output
       full_back h =
           let found = some_mapped (map_configuration value) (after_steps b' steps (Some (start main))) h.0.last (sym (steps_mapped value Known b b' same main known steps) ∙ h.0.allowed) in
-          let last = found.0 in
-          (
+          let last = found.0 in (
             record {
               last = last;
               allowed = found.1;

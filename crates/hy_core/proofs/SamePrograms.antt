@@ -8,13 +8,15 @@ use Rattle.hy_core.specs.declared.end.End.{End}
 use Rattle.hy_core.specs.declared.step.Step.{Step}
 use Rattle.hy_core.specs.Comparison.{map_input, map_event, SameResult}
 use Rattle.hy_core.specs.Computation.{Input, result_of}
-use Rattle.hy_core.specs.Evaluation.{Evaluated, Top, body_of, run_of}
+use Rattle.hy_core.specs.Evaluation.{Evaluated, Callee, Top, body_of, run_of}
 use Rattle.hy_core.specs.FullRun.{behaviour_of, IsFullRun}
 use Rattle.hy_core.specs.Machine.{Process}
 use Rattle.hy_core.specs.Resolved.{FunctionTree}
-use Rattle.hy_core.specs.SameBehaviour.{map_process, SameBehaviour, HasFullRun}
+use Rattle.hy_core.specs.SameBehaviour.{SpawnsOf, map_process, SameBehaviour, HasFullRun}
 use Rattle.hy_core.specs.SameProgram.{SameProgram, waits}
 use Rattle.hy_core.proofs.Comparing.{map_inputs-id, same_events_here}
+use Rattle.hy_core.specs.Simulation.{Simulates}
+use Rattle.hy_core.proofs.SimulatingHere.{alike_run, alike_does}
 use Rattle.hy_core.proofs.SameEnds.{full_forth, full_back}
 
 process-id : {V : Type 0} (p : Process V) → map_process (λ v. v) p ≡ p
@@ -59,3 +61,15 @@ module _ (Known : ℕ → Type 0) (atoms : List (List ℕ)) (limit : ℕ) (sourc
     runs_back h =
         let r = full_forth (λ t. t) Known (behaviour_of source atoms limit) (behaviour_of program atoms limit) behaves stopped main known steps ends output (subst (λ s. HasFullRun (behaviour_of program atoms limit) s main steps ends output) (sym stopped-same) (h.full, h.writes)) in
         record { full = r.0; writes = r.1 }
+
+-- where the bodies of calls that stand for each other simulate each other, programs do the same
+module _ (Known : ℕ → Type 0) (Calls : Callee → List Term → Callee → List Term → Type 0) (atoms : List (List ℕ)) (source program : List FunctionTree) (tops : (f : ℕ) → Known f → (ts : List Term) → Calls (Top f) ts (Top f) ts) (bodies : (pid : ℕ) (f : Callee) (ts : List Term) (g : Callee) (us : List Term) → Calls f ts g us → Simulates (λ t. t) Some (SpawnsOf Known) Calls (waits atoms pid) (waits atoms pid) (body_of source atoms pid f ts) (body_of program atoms pid g us)) where
+  pub simulated_program : (limit : ℕ) → SameProgram Known atoms limit source program
+  simulated_program limit = record {
+    runs = λ pid f k ts is.
+        alike_run (SpawnsOf Known) Calls (waits atoms pid) (waits atoms pid) (body_of source atoms pid) (body_of program atoms pid) (bodies pid) limit (body_of source atoms pid (Top f) ts) (body_of program atoms pid (Top f) ts) is
+        (bodies pid (Top f) ts (Top f) ts (tops f k ts));
+    spawns = λ pid f k ts is.
+        alike_does (SpawnsOf Known) Calls (waits atoms pid) (waits atoms pid) (body_of source atoms pid) (body_of program atoms pid) (bodies pid) limit (body_of source atoms pid (Top f) ts) (body_of program atoms pid (Top f) ts) is
+        (bodies pid (Top f) ts (Top f) ts (tops f k ts));
+  }

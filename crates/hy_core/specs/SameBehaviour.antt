@@ -41,13 +41,13 @@ SpawnsOf Known (Printed v) = Unit {0}
 
 -- Known: the functions that a process may begin with. The second behaviour may know others.
 module _ {V V' W W' : Type 0} (value : V' → V) (Known : ℕ → Type 0) (b : Behaviour V W) (b' : Behaviour V' W')
-    where
-  pub record SameBehaviour : Type 0 where
-    -- each known function does the same in each process, with all arguments and inputs
-    pub runs : (pid f : ℕ) → Known f → (us : List V') (is : List (Input V')) → SameResult value (waiting_of b pid) (waiting_of b' pid) (λ e. Some (map_event value e)) (b.runs pid f (map value us) (map (map_input value) is)) (b'.runs pid f us is)
-    -- and spawns known functions alone
-    pub spawns : (pid f : ℕ) → Known f → (us : List V') (is : List (Input V')) → All (SpawnsOf Known) (b.runs pid f (map value us) (map (map_input value) is)).events
-    pub texts : (u : V') → b'.text_of u ≡ b.text_of (value u)
+  where
+    pub record SameBehaviour : Type 0 where
+      -- each known function does the same in each process, with all arguments and inputs
+      pub runs : (pid f : ℕ) → Known f → (us : List V') (is : List (Input V')) → SameResult value (waiting_of b pid) (waiting_of b' pid) (λ e. Some (map_event value e)) (b.runs pid f (map value us) (map (map_input value) is)) (b'.runs pid f us is)
+      -- and spawns known functions alone
+      pub spawns : (pid f : ℕ) → Known f → (us : List V') (is : List (Input V')) → All (SpawnsOf Known) (b.runs pid f (map value us) (map (map_input value) is)).events
+      pub texts : (u : V') → b'.text_of u ≡ b.text_of (value u)
 
 -- a full run with these ends, and its output
 abbrev pub HasFullRun : {V W : Type 0} → Behaviour V W → (stopped : Process V → Cause → Type 0) → (main : ℕ) → List Step → List End → (output : List ℕ) → Type 0

@@ -1,5 +1,12 @@
 ghost use Rattle.std.specs.Prelude.{ℕ, List};
-ghost use Rattle.hy_core.specs.BehaviourLaws.{SameFullRuns, SameProgramsRun, SameStepsAllowed};
+ghost use Rattle.hy_core.specs.BehaviourLaws.{
+  SameFullRuns,
+  SameProgramsRun,
+  SameRunsBehaveTheSame,
+  SameStepsAllowed,
+  SimulatedProgramIsSame,
+};
+ghost use Rattle.hy_core.specs.Evaluation.{Callee};
 ghost use Rattle.hy_core.specs.ComparisonLaws.{
   ComparesWithItself,
   Composes,
@@ -136,6 +143,14 @@ pub trait Setting<Value> {
     ghost stopped: { Process Value → Cause → Type 0 };
 }
 
+/// Processes whose runs are the same, with as many calls, behave the same. An act of the second may be no
+/// event.
+pub fn same_runs_behave_the_same<Value, NextValue, Done, Wait, NextWait, S>()
+where
+    S: Setting<Value>,
+    ensures { SameRunsBehaveTheSame Value NextValue Done Wait NextWait S.known }
+{}
+
 /// Of processes that behave the same, the machine allows the same steps. After the same steps they stand
 /// the same, and have written the same.
 pub fn same_steps_are_allowed<Value, NextValue, Wait, NextWait, S>()
@@ -151,12 +166,22 @@ where
     ensures { SameFullRuns Value NextValue Wait NextWait S.known S.stopped }
 {}
 
-/// The same of a program's processes.
+/// The same of a program's processes, and which calls of one program stand for which of another.
 pub trait ProgramSetting {
     ghost known: { ℕ → Type 0 };
 
     ghost stopped: { Process Term → Cause → Type 0 };
+
+    ghost calls: { Callee → List Term → Callee → List Term → Type 0 };
 }
+
+/// Two programs do the same where the bodies of calls that stand for each other simulate each other, and
+/// each known function stands for itself.
+pub fn simulated_programs_are_the_same<S>()
+where
+    S: ProgramSetting,
+    ensures { SimulatedProgramIsSame S.known S.calls }
+{}
 
 /// Where the functions of two programs do the same in each process, with all arguments and inputs, each
 /// full run of one is a full run of the other, with the same ends and the same output.
