@@ -310,16 +310,18 @@ module _ {V V' W W' : Type 0} (value : V' → V) (Known : ℕ → Type 0) (b : B
   steps_mapped main known steps = after_all_mapped steps (Some (start main)) (known, tt)
 
 -- the same runs make the same behaviour
-module _ {V V' B W W' : Type 0} (value : V' → V) (Known : ℕ → Type 0) (event : B → Option (Event V')) (runs : (pid f : ℕ) → List V → List (Input V) → Run V Class (Event V) W) (runs' : (pid f : ℕ) → List V' → List (Input V') → Run V' Class B W') (accepts : ℕ → W → V → Bool) (accepts' : ℕ → W' → V' → Bool) (timeout : W → Timeout) (timeout' : W' → Timeout) (text_of : V → List ℕ) where
-  abbrev first : Behaviour V W
-  first = record { runs = λ pid f vs is. result_of (runs pid f vs is); accepts = accepts; timeout = timeout; text_of = text_of }
+module _ {V V' B W W' : Type 0} (value : V' → V) (Known : ℕ → Type 0) (event : B → Option (Event V')) (b : Behaviour V W) (b' : Behaviour V' W') (runs : (pid f : ℕ) → List V → List (Input V) → Run V Class (Event V) W) (runs' : (pid f : ℕ) → List V' → List (Input V') → Run V' Class B W') where
+  abbrev first_run : (pid f : ℕ) → List V' → List (Input V') → Run V Class (Event V) W
+  first_run pid f us is = runs pid f (map value us) (map (map_input value) is)
 
-  abbrev second : Behaviour V' W'
-  second = record { runs = λ pid f us is. events_only event (runs' pid f us is); accepts = accepts'; timeout = timeout'; text_of = λ u. text_of (value u) }
-
-  pub same_behaviour : ((pid f : ℕ) → Known f → (us : List V') (is : List (Input V')) → SameRun value (waiting_of first pid) (waiting_of second pid) (λ b. option_map (map_event value) (event b)) (runs pid f (map value us) (map (map_input value) is)) (runs' pid f us is) × All (SpawnsOf Known) (dones (runs pid f (map value us) (map (map_input value) is)).moments)) → SameBehaviour value Known first second
-  same_behaviour h = record {
-    runs = λ pid f k us is. same_events value (waiting_of first pid) (waiting_of second pid) event (map_event value) (runs pid f (map value us) (map (map_input value) is)) (runs' pid f us is) (h pid f k us is).0;
-    spawns = λ pid f k us is. (h pid f k us is).1;
-    texts = λ u. refl;
+  pub same_behaviour : ((pid f : ℕ) (vs : List V) (is : List (Input V)) → b.runs pid f vs is ≡ result_of (runs pid f vs is)) → ((pid f : ℕ) (us : List V') (is : List (Input V')) → b'.runs pid f us is ≡ events_only event (runs' pid f us is)) → ((u : V') → b'.text_of u ≡ b.text_of (value u)) → ((pid f : ℕ) → Known f → (us : List V') (is : List (Input V')) → SameRun value (waiting_of b pid) (waiting_of b' pid) (λ d. option_map (map_event value) (event d)) (first_run pid f us is) (runs' pid f us is) × All (SpawnsOf Known) (dones (first_run pid f us is).moments)) → SameBehaviour value Known b b'
+  same_behaviour first second texts same = record {
+    runs = λ pid f k us is.
+        let e = first pid f (map value us) (map (map_input value) is) in
+        subst (λ r. SameResult value (waiting_of b pid) (waiting_of b' pid) (λ d. Some (map_event value d)) r (b'.runs pid f us is)) (sym e)
+        (subst (λ r. SameResult value (waiting_of b pid) (waiting_of b' pid) (λ d. Some (map_event value d)) (result_of (first_run pid f us is)) r) (sym (second pid f us is))
+        (same_events value (waiting_of b pid) (waiting_of b' pid) event (map_event value) (first_run pid f us is) (runs' pid f us is) (same pid f k us is).0));
+    spawns = λ pid f k us is.
+        subst (λ r. All (SpawnsOf Known) r.events) (sym (first pid f (map value us) (map (map_input value) is))) (same pid f k us is).1;
+    texts = texts;
   }

@@ -10,12 +10,12 @@ use Rattle.hy_core.specs.Computation.{Input, Got, Lapsed, Born}
 use Rattle.hy_core.specs.Computation.{Did, Used, Run, run, after, after_all, dones}
 use Rattle.hy_core.specs.Simulation.{Acts, Simulates}
 
-module _ {V V' C F F' A A' W W' : Type 0} (value : V' → V) (shown : A' → Option A) (Does : A → Type 0) (Calls : F → List V → F' → List V' → Type 0) (waiting : Waiting V W) (waiting' : Waiting V' W') where
+module _ {V V' C F F' A A' W W' : Type 0} (value : V' → V) (shown : A' → Option A) (Allowed : A → Type 0) (Calls : F → List V → F' → List V' → Type 0) (waiting : Waiting V W) (waiting' : Waiting V' W') where
   abbrev Like : Computation V C F A W → Computation V' C F' A' W' → Type 0
-  Like = Simulates value shown Does Calls waiting waiting'
+  Like = Simulates value shown Allowed Calls waiting waiting'
 
   abbrev Acting : Option A → Computation V C F A W → (Computation V C F A W → Type 0) → Type 0
-  Acting = Acts value shown Does Calls waiting waiting'
+  Acting = Acts value shown Allowed Calls waiting waiting'
 
   acts_attempt : (o : Option A) (p : Computation V C F A W) (k : List V → Computation V C F A W) (h : C → V → Computation V C F A W) (Follows Follows' : Computation V C F A W → Type 0) → Acting o p Follows → ((p' : Computation V C F A W) → Follows p' → Follows' (attempt p' k h)) → Acting o (attempt p k h) Follows'
   acts_attempt None p k h Follows Follows' a on = on p a
@@ -80,9 +80,9 @@ module _ {V V' C B B' W W' : Type 0} (value : V' → V) (shown : B' → Option B
       unseen_first b r (after_all note r') h.0 (unseen_all note r r' h.1 s)
 
 -- bodies that simulate each other make runs the same
-module _ {V V' C F F' A A' B' W W' : Type 0} (value : V' → V) (did : A' → B') (note : List B') (shown : B' → Option A) (Does : A → Type 0) (Calls : F → List V → F' → List V' → Type 0) (waiting : Waiting V W) (waiting' : Waiting V' W') (body : F → List V → Computation V C F A W) (body' : F' → List V' → Computation V' C F' A' W') where
+module _ {V V' C F F' A A' B' W W' : Type 0} (value : V' → V) (did : A' → B') (note : List B') (shown : B' → Option A) (Allowed : A → Type 0) (Calls : F → List V → F' → List V' → Type 0) (waiting : Waiting V W) (waiting' : Waiting V' W') (body : F → List V → Computation V C F A W) (body' : F' → List V' → Computation V' C F' A' W') where
   abbrev Related : Computation V C F A W → Computation V' C F' A' W' → Type 0
-  Related = Simulates value (λ a. shown (did a)) Does Calls waiting waiting'
+  Related = Simulates value (λ a. shown (did a)) Allowed Calls waiting waiting'
 
   abbrev running : ℕ → Computation V C F A W → List (Input V') → Run V C A W
   running n p is = run (λ a. a) [] body n p (map (map_input value) is)
@@ -90,7 +90,7 @@ module _ {V V' C F F' A A' B' W W' : Type 0} (value : V' → V) (did : A' → B'
   abbrev running' : ℕ → Computation V' C F' A' W' → List (Input V') → Run V' C B' W'
   running' n q is = run did note body' n q is
 
-  acts_run : (n : ℕ) (is : List (Input V')) (b : B') (o : Option A) (p : Computation V C F A W) (r' : Run V' C B' W') (Follows : Computation V C F A W → Type 0) → shown b ≡ o → Acts value (λ a. shown (did a)) Does Calls waiting waiting' o p Follows → ((p' : Computation V C F A W) → Follows p' → SameRun value waiting waiting' shown (running n p' is) r') → SameRun value waiting waiting' shown (running n p is) (after (Did b) r')
+  acts_run : (n : ℕ) (is : List (Input V')) (b : B') (o : Option A) (p : Computation V C F A W) (r' : Run V' C B' W') (Follows : Computation V C F A W → Type 0) → shown b ≡ o → Acts value (λ a. shown (did a)) Allowed Calls waiting waiting' o p Follows → ((p' : Computation V C F A W) → Follows p' → SameRun value waiting waiting' shown (running n p' is) r') → SameRun value waiting waiting' shown (running n p is) (after (Did b) r')
   acts_run n is b None p r' Follows e a on = unseen_first value shown waiting waiting' b (running n p is) r' e (on p a)
   acts_run n is b (Some c) (Act d p) r' Follows e a on = seen_first value shown waiting waiting' c d b (running n p is) r' e a.0 (on p a.2)
   acts_run n is b (Some c) _ r' Follows e a on = absurd a
@@ -106,7 +106,7 @@ module _ {V V' C F F' A A' B' W W' : Type 0} (value : V' → V) (did : A' → B'
     simulates_run (suc n) (Call f vs k h) (Call g us k' h') is s =
         let p = attempt (body f vs) k h in
         let q = attempt (body' g us) k' h' in
-        let through = simulates_attempt value (λ a. shown (did a)) Does Calls waiting waiting' (body f vs) (body' g us) k k' h h' (bodies f vs g us s.0) s.1 s.2 in
+        let through = simulates_attempt value (λ a. shown (did a)) Allowed Calls waiting waiting' (body f vs) (body' g us) k k' h h' (bodies f vs g us s.0) s.1 s.2 in
         unseen_all value shown waiting waiting' note (running n p is) (running' n q is) unseen (simulates_run n p q is through)
     simulates_run n (Birth k) (Birth k') [] s = record { moments = refl; calls = refl; inputs = refl; end = tt }
     simulates_run n (Birth k) (Birth k') (Born pid ∷ is) s =
@@ -121,31 +121,31 @@ module _ {V V' C F F' A A' B' W W' : Type 0} (value : V' → V) (did : A' → B'
     simulates_run n (Receive w k p) (Receive w' k' q) (Born pid ∷ is) s = record { moments = refl; calls = refl; inputs = refl; end = tt }
     simulates_run n _ _ is s = absurd s
 
-  acts_does : (n : ℕ) (is : List (Input V')) (o : Option A) (p : Computation V C F A W) (Follows : Computation V C F A W → Type 0) → Acts value (λ a. shown (did a)) Does Calls waiting waiting' o p Follows → ((p' : Computation V C F A W) → Follows p' → All Does (dones (running n p' is).moments)) → All Does (dones (running n p is).moments)
+  acts_does : (n : ℕ) (is : List (Input V')) (o : Option A) (p : Computation V C F A W) (Follows : Computation V C F A W → Type 0) → Acts value (λ a. shown (did a)) Allowed Calls waiting waiting' o p Follows → ((p' : Computation V C F A W) → Follows p' → All Allowed (dones (running n p' is).moments)) → All Allowed (dones (running n p is).moments)
   acts_does n is None p Follows a on = on p a
-  acts_does n is (Some c) (Act d p) Follows a on = All-cons Does d (dones (running n p is).moments) a.1 (on p a.2)
+  acts_does n is (Some c) (Act d p) Follows a on = All-cons Allowed d (dones (running n p is).moments) a.1 (on p a.2)
   acts_does n is (Some c) _ Follows a on = absurd a
 
   module _ (bodies : (f : F) (vs : List V) (g : F') (us : List V') → Calls f vs g us → Related (body f vs) (body' g us)) where
     -- each act that is done is of those that are allowed
-    pub simulates_does : (n : ℕ) (p : Computation V C F A W) (q : Computation V' C F' A' W') (is : List (Input V')) → Related p q → All Does (dones (running n p is).moments)
+    pub simulates_does : (n : ℕ) (p : Computation V C F A W) (q : Computation V' C F' A' W') (is : List (Input V')) → Related p q → All Allowed (dones (running n p is).moments)
     simulates_does n p (Act b q) is s =
         acts_does n is (shown (did b)) p (λ p'. Related p' q) s (λ p' s'. simulates_does n p' q is s')
-    simulates_does n (Give vs) (Give us) is s = All-nil Does
-    simulates_does n (Raise c v) (Raise d u) is s = All-nil Does
-    simulates_does n Fault Fault is s = All-nil Does
-    simulates_does zero (Call f vs k h) (Call g us k' h') is s = All-nil Does
+    simulates_does n (Give vs) (Give us) is s = All-nil Allowed
+    simulates_does n (Raise c v) (Raise d u) is s = All-nil Allowed
+    simulates_does n Fault Fault is s = All-nil Allowed
+    simulates_does zero (Call f vs k h) (Call g us k' h') is s = All-nil Allowed
     simulates_does (suc n) (Call f vs k h) (Call g us k' h') is s =
         simulates_does n (attempt (body f vs) k h) (attempt (body' g us) k' h') is
-        (simulates_attempt value (λ a. shown (did a)) Does Calls waiting waiting' (body f vs) (body' g us) k k' h h' (bodies f vs g us s.0) s.1 s.2)
-    simulates_does n (Birth k) (Birth k') [] s = All-nil Does
+        (simulates_attempt value (λ a. shown (did a)) Allowed Calls waiting waiting' (body f vs) (body' g us) k k' h h' (bodies f vs g us s.0) s.1 s.2)
+    simulates_does n (Birth k) (Birth k') [] s = All-nil Allowed
     simulates_does n (Birth k) (Birth k') (Born pid ∷ is) s = simulates_does n (k pid) (k' pid) is (s pid)
-    simulates_does n (Birth k) (Birth k') (Got v ∷ is) s = All-nil Does
-    simulates_does n (Birth k) (Birth k') (Lapsed ∷ is) s = All-nil Does
-    simulates_does n (Receive w k p) (Receive w' k' q) [] s = All-nil Does
+    simulates_does n (Birth k) (Birth k') (Got v ∷ is) s = All-nil Allowed
+    simulates_does n (Birth k) (Birth k') (Lapsed ∷ is) s = All-nil Allowed
+    simulates_does n (Receive w k p) (Receive w' k' q) [] s = All-nil Allowed
     simulates_does n (Receive w k p) (Receive w' k' q) (Got v ∷ is) s = simulates_does n (k (value v)) (k' v) is (s.1 v)
     simulates_does n (Receive w k p) (Receive w' k' q) (Lapsed ∷ is) s = simulates_does n p q is s.2
-    simulates_does n (Receive w k p) (Receive w' k' q) (Born pid ∷ is) s = All-nil Does
+    simulates_does n (Receive w k p) (Receive w' k' q) (Born pid ∷ is) s = All-nil Allowed
     simulates_does n _ _ is s = absurd s
 
 -- a computation simulates itself
@@ -161,7 +161,7 @@ module _ {V C F A W : Type 0} (waiting : Waiting V W) where
       (record { timeout = refl; accepts = λ v. refl }, (λ v. simulates_itself (k v)), simulates_itself p)
 
 -- acts that show nothing may come before
-module _ {V V' C F F' A A' W W' : Type 0} (value : V' → V) (shown : A' → Option A) (Does : A → Type 0) (Calls : F → List V → F' → List V' → Type 0) (waiting : Waiting V W) (waiting' : Waiting V' W') where
-  pub skips_unseen : (p : Computation V C F A W) (q : Computation V' C F' A' W') (a : A') → shown a ≡ None → Simulates value shown Does Calls waiting waiting' p q → Simulates value shown Does Calls waiting waiting' p (Act a q)
+module _ {V V' C F F' A A' W W' : Type 0} (value : V' → V) (shown : A' → Option A) (Allowed : A → Type 0) (Calls : F → List V → F' → List V' → Type 0) (waiting : Waiting V W) (waiting' : Waiting V' W') where
+  pub skips_unseen : (p : Computation V C F A W) (q : Computation V' C F' A' W') (a : A') → shown a ≡ None → Simulates value shown Allowed Calls waiting waiting' p q → Simulates value shown Allowed Calls waiting waiting' p (Act a q)
   skips_unseen p q a e s =
-      subst (λ o. Acts value shown Does Calls waiting waiting' o p (λ p'. Simulates value shown Does Calls waiting waiting' p' q)) (sym e) s
+      subst (λ o. Acts value shown Allowed Calls waiting waiting' o p (λ p'. Simulates value shown Allowed Calls waiting waiting' p' q)) (sym e) s

@@ -12,9 +12,9 @@ use Rattle.hy_core.proofs.Simulating.{simulates_attempt, simulates_run, simulate
 pub values_alike : {V : Type 0} (vs us : List V) → us ≡ vs → map (λ v. v) us ≡ vs
 values_alike vs us e = map-id us ∙ e
 
-module _ {V C F F' A W W' : Type 0} (Does : A → Type 0) (Calls : F → List V → F' → List V → Type 0) (waiting : Waiting V W) (waiting' : Waiting V W') where
+module _ {V C F F' A W W' : Type 0} (Allowed : A → Type 0) (Calls : F → List V → F' → List V → Type 0) (waiting : Waiting V W) (waiting' : Waiting V W') where
   abbrev pub Alike : Computation V C F A W → Computation V C F' A W' → Type 0
-  Alike = Simulates (λ v. v) Some Does Calls waiting waiting'
+  Alike = Simulates (λ v. v) Some Allowed Calls waiting waiting'
 
   pub alike_call : (f : F) (vs : List V) (g : F') (us : List V) (k : List V → Computation V C F A W) (k' : List V → Computation V C F' A W') (h : C → V → Computation V C F A W) (h' : C → V → Computation V C F' A W') → Calls f vs g us → ((ws : List V) → Alike (k ws) (k' ws)) → ((c : C) (w : V) → Alike (h c w) (h' c w)) → Alike (Call f vs k h) (Call g us k' h')
   alike_call f vs g us k k' h h' calls on raised =
@@ -22,7 +22,7 @@ module _ {V C F F' A W W' : Type 0} (Does : A → Type 0) (Calls : F → List V 
 
   pub alike_attempt : (p : Computation V C F A W) (q : Computation V C F' A W') (k : List V → Computation V C F A W) (k' : List V → Computation V C F' A W') (h : C → V → Computation V C F A W) (h' : C → V → Computation V C F' A W') → Alike p q → ((vs : List V) → Alike (k vs) (k' vs)) → ((c : C) (v : V) → Alike (h c v) (h' c v)) → Alike (attempt p k h) (attempt q k' h')
   alike_attempt p q k k' h h' s on raised =
-      simulates_attempt (λ v. v) Some Does Calls waiting waiting' p q k k' h h' s (λ us. subst (λ l. Alike (k l) (k' us)) (sym (map-id us)) (on us)) raised
+      simulates_attempt (λ v. v) Some Allowed Calls waiting waiting' p q k k' h h' s (λ us. subst (λ l. Alike (k l) (k' us)) (sym (map-id us)) (on us)) raised
 
   pub alike_bind : (p : Computation V C F A W) (q : Computation V C F' A W') (k : List V → Computation V C F A W) (k' : List V → Computation V C F' A W') → Alike p q → ((vs : List V) → Alike (k vs) (k' vs)) → Alike (bind p k) (bind q k')
   alike_bind p q k k' s on = alike_attempt p q k k' Raise Raise s on (λ c v. (refl, refl))
@@ -31,9 +31,9 @@ module _ {V C F F' A W W' : Type 0} (Does : A → Type 0) (Calls : F → List V 
     pub alike_run : (n : ℕ) (p : Computation V C F A W) (q : Computation V C F' A W') (is : List (Input V)) → Alike p q → SameRun (λ v. v) waiting waiting' Some (run (λ a. a) [] body n p is) (run (λ a. a) [] body' n q is)
     alike_run n p q is s =
         subst (λ js. SameRun (λ v. v) waiting waiting' Some (run (λ a. a) [] body n p js) (run (λ a. a) [] body' n q is)) (map_inputs-id is)
-        (simulates_run (λ v. v) (λ a. a) [] Some Does Calls waiting waiting' body body' refl bodies n p q is s)
+        (simulates_run (λ v. v) (λ a. a) [] Some Allowed Calls waiting waiting' body body' refl bodies n p q is s)
 
-    pub alike_does : (n : ℕ) (p : Computation V C F A W) (q : Computation V C F' A W') (is : List (Input V)) → Alike p q → All Does (dones (run (λ a. a) [] body n p is).moments)
+    pub alike_does : (n : ℕ) (p : Computation V C F A W) (q : Computation V C F' A W') (is : List (Input V)) → Alike p q → All Allowed (dones (run (λ a. a) [] body n p is).moments)
     alike_does n p q is s =
-        subst (λ js. All Does (dones (run (λ a. a) [] body n p js).moments)) (map_inputs-id is)
-        (simulates_does (λ v. v) (λ a. a) [] Some Does Calls waiting waiting' body body' bodies n p q is s)
+        subst (λ js. All Allowed (dones (run (λ a. a) [] body n p js).moments)) (map_inputs-id is)
+        (simulates_does (λ v. v) (λ a. a) [] Some Allowed Calls waiting waiting' body body' bodies n p q is s)

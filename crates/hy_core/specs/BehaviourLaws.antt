@@ -1,5 +1,6 @@
--- What the copying machine sees of processes. Each law is the clause of a function in the module `laws`.
-use Rattle.std.specs.Prelude.{◌≡◌, ℕ, Bool, List, map, Option, Some}
+-- What the copying machine sees of processes. Each law is the clause of a function in the module
+-- `laws`.
+use Rattle.std.specs.Prelude.{◌≡◌, ℕ, List, map, Option, Some}
 use Rattle.std.specs.List.{All}
 use Rattle.std.specs.Option.{option_map}
 use Rattle.hy_core.specs.declared.end.Cause.{Cause}
@@ -13,10 +14,11 @@ use Rattle.hy_core.specs.Evaluation.{Callee, Top, body_of}
 use Rattle.hy_core.specs.Event.{Event}
 use Rattle.hy_core.specs.Simulation.{Simulates}
 use Rattle.hy_core.specs.FullRun.{IsFullRun}
-use Rattle.hy_core.specs.Resolved.{FunctionTree, Timeout}
+use Rattle.hy_core.specs.Resolved.{FunctionTree}
 use Rattle.hy_core.specs.SameProgram.{SameProgram, waits}
 use Rattle.hy_core.specs.Machine.{Process, Behaviour, after_steps, start}
-use Rattle.hy_core.specs.SameBehaviour.{map_process, map_configuration, SpawnsOf, SameBehaviour, HasFullRun}
+use Rattle.hy_core.specs.SameBehaviour.{map_process, map_configuration, waiting_of, SpawnsOf}
+use Rattle.hy_core.specs.SameBehaviour.{SameBehaviour, HasFullRun}
 
 module _ (V V' W W' : Type 0) (Known : ℕ → Type 0) where
   -- from a known function on, the same steps are allowed, and lead to the same processes and output
@@ -48,9 +50,10 @@ SameProgramsRun Known stopped =
     × (IsFullRun program atoms limit stopped main steps ends output
     → IsFullRun source atoms limit stopped main steps ends output)
 
--- Programs whose bodies simulate each other do the same. Calls: which calls stand for which; a known
--- function stands for itself.
-abbrev pub SimulatedProgramIsSame : (Known : ℕ → Type 0) (Calls : Callee → List Term → Callee → List Term → Type 0) → Type 0
+-- programs whose bodies simulate each other do the same: Calls says which calls stand for which,
+-- and a known function stands for itself
+abbrev pub SimulatedProgramIsSame : (Known : ℕ → Type 0)
+    → (Calls : Callee → List Term → Callee → List Term → Type 0) → Type 0
 SimulatedProgramIsSame Known Calls =
     (atoms : List (List ℕ)) (source program : List FunctionTree)
     → ((f : ℕ) → Known f → (ts : List Term) → Calls (Top f) ts (Top f) ts)
@@ -59,18 +62,31 @@ SimulatedProgramIsSame Known Calls =
     (body_of source atoms pid f ts) (body_of program atoms pid g us))
     → (limit : ℕ) → SameProgram Known atoms limit source program
 
--- The same runs, with as many calls, make the same behaviour: event says which acts of the second are
--- events.
-abbrev pub SameRunsBehaveTheSame : (V V' B W W' : Type 0) (Known : ℕ → Type 0) → Type 0
-SameRunsBehaveTheSame V V' B W W' Known =
-    (value : V' → V) (event : B → Option (Event V'))
-    (runs : (pid f : ℕ) → List V → List (Input V) → Run V Class (Event V) W)
-    (runs' : (pid f : ℕ) → List V' → List (Input V') → Run V' Class B W')
-    (accepts : ℕ → W → V → Bool) (accepts' : ℕ → W' → V' → Bool)
-    (timeout : W → Timeout) (timeout' : W' → Timeout) (text_of : V → List ℕ)
-    → ((pid f : ℕ) → Known f → (us : List V') (is : List (Input V'))
-    → SameRun value (record { timeout = timeout; accepts = accepts pid }) (record { timeout = timeout'; accepts = accepts' pid }) (λ b. option_map (map_event value) (event b)) (runs pid f (map value us) (map (map_input value) is)) (runs' pid f us is)
-    × All (SpawnsOf Known) (dones (runs pid f (map value us) (map (map_input value) is)).moments))
-    → SameBehaviour value Known
-    (record { runs = λ pid f vs is. result_of (runs pid f vs is); accepts = accepts; timeout = timeout; text_of = text_of })
-    (record { runs = λ pid f us is. events_only event (runs' pid f us is); accepts = accepts'; timeout = timeout'; text_of = λ u. text_of (value u) })
+-- Processes whose runs are the same, with as many calls, behave the same. event says which acts of
+-- the second are events; the acts of the first are its events.
+module _ (V V' B W W' : Type 0) (Known : ℕ → Type 0) where
+  abbrev RunsOf : (U D X : Type 0) → Type 0
+  RunsOf U D X = (pid function : ℕ) → List U → List (Input U) → Run U Class D X
+
+  -- what the first does with what the arguments and inputs of the second stand for
+  abbrev RunsHere : Type 0
+  RunsHere = (pid f : ℕ) → List V' → List (Input V') → Run V Class (Event V) W
+
+  abbrev first_run : RunsOf V (Event V) W → (V' → V) → RunsHere
+  first_run runs value pid f us is = runs pid f (map value us) (map (map_input value) is)
+
+  abbrev pub SameRunsBehaveTheSame : Type 0
+  SameRunsBehaveTheSame =
+      (value : V' → V) (event : B → Option (Event V')) (b : Behaviour V W) (b' : Behaviour V' W')
+      (runs : RunsOf V (Event V) W) (runs' : RunsOf V' B W')
+      → ((pid f : ℕ) (vs : List V) (is : List (Input V))
+      → b.runs pid f vs is ≡ result_of (runs pid f vs is))
+      → ((pid f : ℕ) (us : List V') (is : List (Input V'))
+      → b'.runs pid f us is ≡ events_only event (runs' pid f us is))
+      → ((u : V') → b'.text_of u ≡ b.text_of (value u))
+      → ((pid f : ℕ) → Known f → (us : List V') (is : List (Input V'))
+      → SameRun value (waiting_of b pid) (waiting_of b' pid)
+      (λ d. option_map (map_event value) (event d)) (first_run runs value pid f us is)
+      (runs' pid f us is)
+      × All (SpawnsOf Known) (dones (first_run runs value pid f us is).moments))
+      → SameBehaviour value Known b b'

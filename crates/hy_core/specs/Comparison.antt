@@ -1,4 +1,5 @@
--- When two runs are the same to all that is outside, each over values of its own: this project's own.
+-- When two runs are the same to all that is outside, each over values of its own: this project's
+-- own.
 use Rattle.std.specs.Prelude.{◌≡◌, Bool, map, Option, Some}
 use Rattle.std.specs.List.{filter_map}
 use Rattle.std.specs.Option.{option_map}
@@ -23,15 +24,15 @@ pub record Waiting (V W : Type 0) : Type 0 where
   pub timeout : W → Timeout
   pub accepts : W → V → Bool
 
--- what a moment of a run of the second kind shows in the terms of the first: an act may show nothing,
--- being one that the first kind does not have; each use of an input is shown
+-- what a moment of a run of the second kind shows in the terms of the first: an act that the first
+-- kind does not have shows nothing; each use of an input is shown
 module _ {V V' B B' : Type 0} (value : V' → V) (shown : B' → Option B) where
   abbrev pub shown_moment : Moment V' B' → Option (Moment V B)
   shown_moment (Did b) = option_map Did (shown b)
   shown_moment (Used i) = Some (Used (map_input value i))
 
--- the second run is over values V' and waits W', the first over V and W; value is what a value of the
--- second stands for in the first
+-- the first run is over values V, and its receives wait for W; the second is over V' and W'; value
+-- is what a value of the second stands for in the first
 module _ {V V' W W' : Type 0} (value : V' → V) (waiting : Waiting V W) (waiting' : Waiting V' W')
   where
     -- two receives with one timeout, of which both accept a message or neither does
@@ -48,23 +49,26 @@ module _ {V V' W W' : Type 0} (value : V' → V) (waiting : Waiting V W) (waitin
     SameEnd Wrong Wrong = Unit {0}
     SameEnd _ _ = ⊥
 
-    -- the same events and uses of inputs in one order, calls left, inputs left, and end
-    pub record SameRun {C B B' : Type 0} (shown : B' → Option B) (r : Run V C B W) (r' : Run V' C B' W')
-        : Type 0 where
-      pub moments : filter_map (shown_moment value shown) r'.moments ≡ r.moments
-      pub calls : r'.calls ≡ r.calls
-      pub inputs : map (map_input value) r'.inputs ≡ r.inputs
-      pub end : SameEnd r.end r'.end
+    module _ {C B B' : Type 0} (shown : B' → Option B) where
+      -- the same events and uses of inputs in one order, calls left, inputs left, and end
+      pub record SameRun (r : Run V C B W) (r' : Run V' C B' W') : Type 0 where
+        pub moments : filter_map (shown_moment value shown) r'.moments ≡ r.moments
+        pub calls : r'.calls ≡ r.calls
+        pub inputs : map (map_input value) r'.inputs ≡ r.inputs
+        pub end : SameEnd r.end r'.end
 
-    -- the same without the order of events and inputs
-    pub record SameResult {C B B' : Type 0} (shown : B' → Option B) (r : Result V C B W) (r' : Result V' C B' W')
-        : Type 0 where
-      pub events : filter_map shown r'.events ≡ r.events
-      pub calls : r'.calls ≡ r.calls
-      pub inputs : map (map_input value) r'.inputs ≡ r.inputs
-      pub end : SameEnd r.end r'.end
+      -- the same without the order of events and inputs
+      pub record SameResult (r : Result V C B W) (r' : Result V' C B' W') : Type 0 where
+        pub events : filter_map shown r'.events ≡ r.events
+        pub calls : r'.calls ≡ r.calls
+        pub inputs : map (map_input value) r'.inputs ≡ r.inputs
+        pub end : SameEnd r.end r'.end
 
--- a run by its events alone: event says which act of the run is an event
+-- a run by its events alone: event says which acts of the run are events
 abbrev pub events_only : {V C B E W : Type 0} → (B → Option E) → Run V C B W → Result V C E W
-events_only event r =
-    record { events = filter_map event (dones r.moments); calls = r.calls; inputs = r.inputs; end = r.end }
+events_only event r = record {
+  events = filter_map event (dones r.moments);
+  calls = r.calls;
+  inputs = r.inputs;
+  end = r.end;
+}

@@ -12,25 +12,26 @@ module _ (V C B W : Type 0) where
   abbrev pub ComparesWithItself : Type 0
   ComparesWithItself = (waiting : Waiting V W) (r : Run V C B W) → SameHere waiting r r
 
-  -- where the values are those of the first and each act is shown, the same runs are equal, but for what
-  -- a receive waits for
+  -- over the same values, and where each act is shown, the same runs are equal, but for what a
+  -- receive waits for
   abbrev pub SameIsEqual : Type 0
   SameIsEqual =
       (waiting : Waiting V W) (r r' : Run V C B W) → SameHere waiting r r'
       → ((w : W) → r.end ≡ Needs w → ⊥) → r' ≡ r
 
--- what is the same as a run that is the same as a third is the same as the third: its values are those that
--- their values stand for, and it shows of its acts what is shown of what they show
+-- what is the same as something that is the same as a run is the same as that run: its values stand
+-- for what their values stand for, and its acts show what is shown of what they show
 abbrev pub Composes : (V V' V'' C B B' B'' W W' W'' : Type 0) → Type 0
 Composes V V' V'' C B B' B'' W W' W'' =
     (value : V' → V) (value' : V'' → V') (shown : B' → Option B) (shown' : B'' → Option B')
     (waiting : Waiting V W) (waiting' : Waiting V' W') (waiting'' : Waiting V'' W'')
     (r : Run V C B W) (r' : Run V' C B' W') (r'' : Run V'' C B'' W'')
     → SameRun value waiting waiting' shown r r' → SameRun value' waiting' waiting'' shown' r' r''
-    → SameRun (λ v. value (value' v)) waiting waiting'' (λ b. option_and_then shown (shown' b)) r r''
+    → SameRun (λ v. value (value' v)) waiting waiting'' (λ b. option_and_then shown (shown' b)) r
+    r''
 
 module _ (V V' C B B' W W' : Type 0) where
-  -- a receive that waits does so in both, with one timeout, and both accept a message or neither does
+  -- where one waits in a receive, so does the other, with the same timeout and accepting the same
   abbrev pub WaitsAlike : Type 0
   WaitsAlike =
       (value : V' → V) (shown : B' → Option B) (waiting : Waiting V W) (waiting' : Waiting V' W')

@@ -1,18 +1,19 @@
--- When one computation does what another does: a simulation, step by step, up to acts that only the second
--- has, in the sense of R. Milner (Communication and Concurrency, 1989), as a function of the two trees.
+-- When one computation does what another does, step by step, up to acts that only the second has: a
+-- simulation (R. Milner, Communication and Concurrency, 1989), here by recursion on the trees.
 use Rattle.std.specs.Prelude.{◌≡◌, ℕ, List, map, Option, None, Some}
 use Rattle.hy_core.specs.Comparison.{Waiting, SameWait}
 use Rattle.hy_core.specs.Computation.{Computation, Give, Raise, Fault, Act, Call, Birth, Receive}
 
--- Does: what holds of each act of the first; Calls: a call of the first with its arguments, and the call of
--- the second that stands for it, which may have further arguments
-module _ {V V' C F F' A A' W W' : Type 0} (value : V' → V) (shown : A' → Option A) (Does : A → Type 0)
-    (Calls : F → List V → F' → List V' → Type 0) (waiting : Waiting V W) (waiting' : Waiting V' W')
+-- Allowed: what holds of each act of the first; Calls: a call of the first with its arguments, and
+-- the call of the second that stands for it, which may have further arguments
+module _ {V V' C F F' A A' W W' : Type 0} (value : V' → V) (shown : A' → Option A)
+    (Allowed : A → Type 0) (Calls : F → List V → F' → List V' → Type 0) (waiting : Waiting V W)
+    (waiting' : Waiting V' W')
   where
-    -- the first does the act that is shown, and goes on as what follows asks; where none is shown it stays
+    -- the first does the act that is shown, and then what follows; where none is shown, it stays
     abbrev pub Acts : Option A → Computation V C F A W → (Computation V C F A W → Type 0) → Type 0
     Acts None p Follows = Follows p
-    Acts (Some a) (Act d p) Follows = (a ≡ d) × Does d × Follows p
+    Acts (Some a) (Act d p) Follows = (a ≡ d) × Allowed d × Follows p
     Acts (Some a) _ Follows = ⊥
 
     -- each way on is asked for all that may come back

@@ -2,7 +2,7 @@
 use Rattle.std.specs.Prelude.{◌≡◌, ℕ, List, [], map, Option, None, Some}
 use Rattle.std.specs.List.{filter_map, All}
 use Rattle.hy_core.specs.Comparison.{Waiting, map_input, SameRun}
-use Rattle.hy_core.specs.Computation.{Computation, Act, attempt, Input, run, dones}
+use Rattle.hy_core.specs.Computation.{Computation, Act, attempt, Input, Run, run, dones}
 use Rattle.hy_core.specs.Simulation.{Simulates}
 
 -- a computation simulates itself, where a call stands for itself
@@ -11,8 +11,8 @@ SimulatesItself V C F A W =
     (waiting : Waiting V W) (p : Computation V C F A W)
     → Simulates (λ v. v) Some (λ a. Unit {0}) (λ f vs g us. (g ≡ f) × (us ≡ vs)) waiting waiting p p
 
--- Does and Calls: what holds of each act of the first, and which calls stand for which
-module _ {V V' F F' A : Type 0} (C A' W W' : Type 0) (Does : A → Type 0)
+-- Allowed and Calls: what holds of each act of the first, and which calls stand for which
+module _ {V V' F F' A : Type 0} (C A' W W' : Type 0) (Allowed : A → Type 0)
     (Calls : F → List V → F' → List V' → Type 0)
   where
     abbrev First : Type 0
@@ -21,29 +21,34 @@ module _ {V V' F F' A : Type 0} (C A' W W' : Type 0) (Does : A → Type 0)
     abbrev Second : Type 0
     Second = Computation V' C F' A' W'
 
+    abbrev Like : (V' → V) → (A' → Option A) → Waiting V W → Waiting V' W' → First → Second → Type 0
+    Like value shown waiting waiting' p q = Simulates value shown Allowed Calls waiting waiting' p q
+
     -- acts that show nothing may come before
     abbrev pub SkipsUnseen : Type 0
     SkipsUnseen =
         (value : V' → V) (shown : A' → Option A) (waiting : Waiting V W) (waiting' : Waiting V' W')
-        (p : First) (q : Second) (a : A') → shown a ≡ None
-        → Simulates value shown Does Calls waiting waiting' p q
-        → Simulates value shown Does Calls waiting waiting' p (Act a q)
+        (p : First) (q : Second) (a : A') → shown a ≡ None → Like value shown waiting waiting' p q
+        → Like value shown waiting waiting' p (Act a q)
 
     -- a part, and what follows its values and what follows what it raises
     abbrev pub GoesThroughParts : Type 0
     GoesThroughParts =
         (value : V' → V) (shown : A' → Option A) (waiting : Waiting V W) (waiting' : Waiting V' W')
         (p : First) (q : Second) (k : List V → First) (k' : List V' → Second) (h : C → V → First)
-        (h' : C → V' → Second)
-        → Simulates value shown Does Calls waiting waiting' p q
-        → ((us : List V') → Simulates value shown Does Calls waiting waiting' (k (map value us)) (k' us))
-        → ((c : C) (u : V') → Simulates value shown Does Calls waiting waiting' (h c (value u)) (h' c u))
-        → Simulates value shown Does Calls waiting waiting' (attempt p k h) (attempt q k' h')
+        (h' : C → V' → Second) → Like value shown waiting waiting' p q
+        → ((us : List V') → Like value shown waiting waiting' (k (map value us)) (k' us))
+        → ((c : C) (u : V') → Like value shown waiting waiting' (h c (value u)) (h' c u))
+        → Like value shown waiting waiting' (attempt p k h) (attempt q k' h')
 
-    -- Where the bodies of calls that stand for each other simulate each other, a computation that simulates
-    -- another has the same run, for each number of calls and each list of inputs. What a call itself does
-    -- (note) shows nothing.
+    -- Where the bodies of calls that stand for each other simulate each other, a computation that
+    -- simulates another has the same run, for each number of calls and each list of inputs, and the
+    -- acts of that run are allowed. What a call itself does (note) shows nothing.
     module _ (B : Type 0) where
+      abbrev first_run : (V' → V) → (F → List V → First) → ℕ → First → List (Input V') → Run V C A W
+      first_run value body calls p inputs =
+          run (λ a. a) [] body calls p (map (map_input value) inputs)
+
       abbrev pub RunsTheSame : Type 0
       RunsTheSame =
           (value : V' → V) (did : A' → B) (note : List B) (shown : B → Option A)
@@ -51,9 +56,9 @@ module _ {V V' F F' A : Type 0} (C A' W W' : Type 0) (Does : A → Type 0)
           (body : F → List V → First) (body' : F' → List V' → Second)
           → filter_map shown note ≡ []
           → ((f : F) (vs : List V) (g : F') (us : List V') → Calls f vs g us
-          → Simulates value (λ a. shown (did a)) Does Calls waiting waiting' (body f vs) (body' g us))
-          → (p : First) (q : Second) → Simulates value (λ a. shown (did a)) Does Calls waiting waiting' p q
+          → Like value (λ a. shown (did a)) waiting waiting' (body f vs) (body' g us))
+          → (p : First) (q : Second) → Like value (λ a. shown (did a)) waiting waiting' p q
           → (calls : ℕ) (inputs : List (Input V'))
-          → SameRun value waiting waiting' shown
-          (run (λ a. a) [] body calls p (map (map_input value) inputs)) (run did note body' calls q inputs)
-          × All Does (dones (run (λ a. a) [] body calls p (map (map_input value) inputs)).moments)
+          → SameRun value waiting waiting' shown (first_run value body calls p inputs)
+          (run did note body' calls q inputs)
+          × All Allowed (dones (first_run value body calls p inputs).moments)

@@ -29,16 +29,16 @@ pub fn runs_compare_with_themselves<Value, Class, Act, Wait>()
     ensures { ComparesWithItself Value Class Act Wait }
 {}
 
-/// Over the same values, and where each act is shown, runs that are the same are equal: in the events and
-/// uses of inputs in their order, in the calls and the inputs left, and in the end. Where the end is a
-/// `receive` that waits, `waits_are_alike` says what is the same.
+/// Over the same values, and where each act is shown, runs that are the same are equal: in the
+/// events and uses of inputs in their order, in the calls and the inputs left, and in the end.
+/// Where the end is a `receive` that waits, `waits_are_alike` says what is the same.
 pub fn same_runs_are_equal<Value, Class, Act, Wait>()
     ensures { SameIsEqual Value Class Act Wait }
 {}
 
-/// Comparison composes: of three runs, where the first and the second are the same and the second and
-/// the third, so are the first and the third. The values of the third stand for those that their values
-/// in the second stand for, and its acts show what is shown of what they show.
+/// Comparison composes: of three runs, where the first and the second are the same and the second
+/// and the third, so are the first and the third. The values of the third stand for those that
+/// their values in the second stand for, and its acts show what is shown of what they show.
 pub fn comparison_composes<
     Value,
     NextValue,
@@ -54,8 +54,8 @@ pub fn comparison_composes<
     ensures { Composes Value NextValue LastValue Class Act NextAct LastAct Wait NextWait LastWait }
 {}
 
-/// Where a run waits in a `receive`, one that is the same does too, with the same timeout, and for each
-/// message both accept it or neither does.
+/// Where a run waits in a `receive`, one that is the same does too, with the same timeout, and for
+/// each message both accept it or neither does.
 pub fn waits_are_alike<Value, NextValue, Class, Act, NextAct, Wait, NextWait>()
     ensures { WaitsAlike Value NextValue Class Act NextAct Wait NextWait }
 {}
@@ -65,8 +65,8 @@ pub fn same_runs_have_the_same_results<Value, NextValue, Class, Act, NextAct, Wa
     ensures { SameInResult Value NextValue Class Act NextAct Wait NextWait }
 {}
 
-/// Which calls of a second meaning stand for which calls of a first, and which acts the first may do.
-/// The call that stands for another may have more arguments, as those of captured variables.
+/// Which calls of a second meaning stand for which calls of a first, and which acts the first may
+/// do. The call that stands for another may have more arguments, as those of captured variables.
 pub trait Correspondence<Value, Callee, Act, NextValue, NextCallee> {
     ghost calls: { Callee → List Value → NextCallee → List NextValue → Type 0 };
 
@@ -96,8 +96,8 @@ where
     ensures { SkipsUnseen Class NextAct Wait NextWait Relation.allowed Relation.calls }
 {}
 
-/// Simulation goes through a part: where a part is simulated, what follows its values and what follows
-/// what it raises, then so is the whole.
+/// Simulation goes through a part: where a part is simulated, what follows its values and what
+/// follows what it raises, then so is the whole.
 pub fn simulation_goes_through_parts<
     Value,
     NextValue,
@@ -115,9 +115,9 @@ where
     ensures { GoesThroughParts Class NextAct Wait NextWait Relation.allowed Relation.calls }
 {}
 
-/// Where the bodies of calls that stand for each other simulate each other, a computation that simulates
-/// another has the same run as it, for each number of calls and each list of inputs, and each act of that
-/// run is an allowed one. Both spend the same calls.
+/// Where the bodies of calls that stand for each other simulate each other, a computation that
+/// simulates another has the same run as it, for each number of calls and each list of inputs, and
+/// each act of that run is an allowed one. Both spend the same calls.
 pub fn simulation_keeps_runs<
     Value,
     NextValue,
@@ -143,23 +143,24 @@ pub trait Setting<Value> {
     ghost stopped: { Process Value → Cause → Type 0 };
 }
 
-/// Processes whose runs are the same, with as many calls, behave the same. An act of the second may be no
-/// event.
+/// Processes whose runs are the same, with as many calls, behave the same. An act of the second
+/// may be no event.
 pub fn same_runs_behave_the_same<Value, NextValue, Done, Wait, NextWait, S>()
 where
     S: Setting<Value>,
     ensures { SameRunsBehaveTheSame Value NextValue Done Wait NextWait S.known }
 {}
 
-/// Of processes that behave the same, the machine allows the same steps. After the same steps they stand
-/// the same, and have written the same.
+/// Of processes that behave the same, the machine allows the same steps. After the same steps they
+/// stand the same, and have written the same.
 pub fn same_steps_are_allowed<Value, NextValue, Wait, NextWait, S>()
 where
     S: Setting<Value>,
     ensures { SameStepsAllowed Value NextValue Wait NextWait S.known }
 {}
 
-/// Of processes that behave the same, the same runs are full, with the same ends and the same output.
+/// Of processes that behave the same, the same runs are full, with the same ends and the same
+/// output.
 pub fn same_runs_are_full<Value, NextValue, Wait, NextWait, S>()
 where
     S: Setting<Value>,
@@ -175,16 +176,16 @@ pub trait ProgramSetting {
     ghost calls: { Callee → List Term → Callee → List Term → Type 0 };
 }
 
-/// Two programs do the same where the bodies of calls that stand for each other simulate each other, and
-/// each known function stands for itself.
+/// Two programs do the same where the bodies of calls that stand for each other simulate each
+/// other, and each known function stands for itself.
 pub fn simulated_programs_are_the_same<S>()
 where
     S: ProgramSetting,
     ensures { SimulatedProgramIsSame S.known S.calls }
 {}
 
-/// Where the functions of two programs do the same in each process, with all arguments and inputs, each
-/// full run of one is a full run of the other, with the same ends and the same output.
+/// Where the functions of two programs do the same in each process, with all arguments and inputs,
+/// each full run of one is a full run of the other, with the same ends and the same output.
 pub fn same_programs_have_the_same_runs<S>()
 where
     S: ProgramSetting,
