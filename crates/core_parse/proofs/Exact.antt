@@ -16,9 +16,10 @@ use Rattle.core_parse.specs.declared.state.Goal.{Goal}
 use Rattle.core_parse.specs.declared.state.Goal.TheVariants as g
 use Rattle.core_parse.specs.declared.state.Value.{Value}
 use Rattle.core_parse.specs.declared.state.State.{State}
-use Rattle.hy_core.specs.Marks.{Role, IsInRange, IsShallow, Fits as IsFitting, IsSound, AreSound, tokens_of}
+use Rattle.hy_core.specs.Marks.{Role, IsShallow, Fits as IsFitting, IsSound, AreSound, tokens_of}
 use Rattle.hy_core.specs.Marks as marks
-use Rattle.core_parse.specs.Machine.{state, is_word, word_in, closing, in_range, fits, part_mark, mark, goal_moved, settled, checked, taken_from, stepped, finished, finished_from, ended, ended_at, goes_on, run}
+use Rattle.core_parse.specs.Machine.{state, is_word, word_in, closing, fits, part_mark, mark, goal_moved, settled, checked, taken_from, stepped, finished, finished_from, ended, ended_at, goes_on, run}
+use Rattle.hy_terms.proofs.RangeLemmas.{in_range_is, is_in_range_of}
 use Rattle.core_parse.proofs.Meaning.{Completes}
 use Rattle.core_parse.proofs.Forth.{Moves}
 use Rattle.core_parse.proofs.ForthGoals.{SitsOn, settle_forth, goal_forth, step_forth}
@@ -36,23 +37,13 @@ FitsIn r = FitsOrDone r.goals r.values
 
 -- ---- levels and ranges
 
-range_is : (sign : Sign) (n : ℕ) → in_range sign n ≡ true → IsInRange sign n
-range_is sign.Absent n h = ltb-true n (2 ^ 59) h
-range_is sign.Plus n h = ltb-true n (2 ^ 59) h
-range_is sign.Minus n h = leb-true n (2 ^ 59) h
-
-is_range : (sign : Sign) (n : ℕ) → IsInRange sign n → in_range sign n ≡ true
-is_range sign.Absent n h = lt-ltb n (2 ^ 59) h
-is_range sign.Plus n h = lt-ltb n (2 ^ 59) h
-is_range sign.Minus n h = le-leb n (2 ^ 59) h
-
 fits_is : (role : Role) (token : Token) → fits role token ≡ true → IsFitting role token
-fits_is marks.Value (t.Integer sign digits) h = range_is sign (value digits) h
+fits_is marks.Value (t.Integer sign digits) h = in_range_is (number sign (value digits)) h
 fits_is marks.Arity (t.Integer sign digits) h = leb-true (value digits) 65535 h
 fits_is _ _ h = tt
 
 is_fits : (role : Role) (token : Token) → IsFitting role token → fits role token ≡ true
-is_fits marks.Value (t.Integer sign digits) h = is_range sign (value digits) h
+is_fits marks.Value (t.Integer sign digits) h = is_in_range_of (number sign (value digits)) h
 is_fits marks.Arity (t.Integer sign digits) h = le-leb (value digits) 65535 h
 is_fits _ _ h = refl
 

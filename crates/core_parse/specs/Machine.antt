@@ -1,6 +1,7 @@
 -- Reading one token after the other: what is still to be read lies on a stack of goals, and what was read on a stack of values.
-use Rattle.std.specs.Prelude.{Bool, true, false, ◌==◌, ℕ, suc, ◌+◌, ◌^◌, pos, nat_le, nat_lt, List, [], ◌∷◌, Option, Some, None, Result, Ok, Err, if◌then◌else◌}
+use Rattle.std.specs.Prelude.{Bool, true, false, ◌==◌, ℕ, suc, ◌+◌, pos, nat_le, nat_lt, List, [], ◌∷◌, Option, Some, None, Result, Ok, Err, if◌then◌else◌}
 use Rattle.std.specs.Str.{bytes_eq}
+use Rattle.hy_terms.specs.Range.{is_in_range}
 use Rattle.hy_core.specs.Marks.{Marked, Role, Value as OfValue, Arity as OfArity, at, constant, plain, value, number}
 use Rattle.hy_core.specs.Numbering.{atom_number, with_atom, variable_number, with_variable, no_tables}
 use Rattle.hy_core.specs.Patterns.{string_pattern}
@@ -420,8 +421,7 @@ mark (g.Module n) token = at n token
 mark _ token = plain token
 
 abbrev pub in_range : Sign → ℕ → Bool
-in_range sign.Minus n = nat_le n (2 ^ 59)
-in_range _ n = nat_lt n (2 ^ 59)
+in_range sign n = is_in_range (number sign n)
 
 abbrev pub fits : Role → Token → Bool
 fits OfValue (t.Integer sign digits) = in_range sign (value digits)

@@ -3,9 +3,10 @@ ghost use Rattle.hy_core.specs.Marks.{value, number};
 ghost use Rattle.core_parse.specs.Machine.{in_range};
 
 use hy_core::Sign;
+use hy_terms::LEAST_NUMBER;
 
 /// The size of the least number.
-const LARGEST_SIZE: u64 = 1 << 59;
+const LARGEST_SIZE: u64 = (-LEAST_NUMBER) as u64;
 
 /// The largest number of a function's parameters.
 const LARGEST_ARITY: u64 = 65_535;

@@ -1,5 +1,5 @@
 -- A number of a tree is read again from its decimal digits.
-use Rattle.std.proofs.Common.{◌≡◌, ℕ, zero, suc, ◌+◌, ◌-◌, ◌<◌, ◌≤◌, ◌^◌, ℤ, pos, neg_ℤ, List, [], ◌∷◌, ◌++◌, length, refl, ap, arith}
+use Rattle.std.proofs.Common.{◌≡◌, ℕ, zero, suc, ◌+◌, ◌-◌, ◌<◌, ◌≤◌, ◌^◌, ℤ, pos, neg_ℤ, List, [], ◌∷◌, ◌++◌, length, refl, sym, ap, subst, arith}
 use Rattle.std.specs.Fmt.{decimal}
 use Rattle.std.specs.Str.Parse.{AllDigits}
 use Rattle.std.proofs.lemmas.Fmt.{decimal_is_IsNumeral, digits_value-decimal}
@@ -7,6 +7,8 @@ use Rattle.std.proofs.lemmas.Str.Parse.{IsNumeralModel, digit_from_value, tells_
 use Rattle.std.proofs.lemmas.Grind.{common_steps}
 use Rattle.hy_terms.specs.Texts.{int_text}
 use Rattle.hy_core.specs.Bytes.{class_of, mark_of, plain_class, is_digit, Pass}
+use Rattle.hy_terms.proofs.RangeLemmas.{number_below, number_above, below_number}
+use Rattle.hy_terms.specs.Range.{IsNumber}
 use Rattle.hy_core.specs.Marks.{value, value_behind, number, IsInRange}
 use Rattle.hy_core.specs.declared.token.ByteClass.TheVariants as c
 use Rattle.hy_core.specs.declared.token.Sign.{Sign}
@@ -47,16 +49,17 @@ pub record IsSpelled (x : ℤ) : Type 0 where
 natural_spelled : (n : ℕ) → n < 2 ^ 59 → IsSpelled (pos n)
 natural_spelled n small =
     let is = decimal_value n (omega arith) in
-    record { sign = g.Absent; digits = decimal n; spells = refl; same = ap pos is; in_range = omega (arith, is); are_digits = decimal_digits n (omega arith) }
+    record { sign = g.Absent; digits = decimal n; spells = refl; same = ap pos is; in_range = below_number (value (decimal n)) (omega (arith, is)); are_digits = decimal_digits n (omega arith) }
 
 -- the integer of a sign and digits in range has such ones
 pub integer_spelled : (sign : Sign) (n : ℕ) → IsInRange sign n → IsSpelled (number sign n)
-integer_spelled g.Absent n small = natural_spelled n small
-integer_spelled g.Plus n small = natural_spelled n small
+integer_spelled g.Absent n small = natural_spelled n (number_below n small)
+integer_spelled g.Plus n small = natural_spelled n (number_below n small)
 integer_spelled g.Minus zero small = natural_spelled 0 (omega arith)
 integer_spelled g.Minus (suc n) small =
+    let low : n < 2 ^ 59 = number_above n small in
     let is = decimal_value (suc n) (omega arith) in
-    record { sign = g.Minus; digits = decimal (suc n); spells = refl; same = ap (λ (k : ℕ). neg_ℤ (pos k)) is; in_range = omega (arith, is); are_digits = decimal_digits (suc n) (omega arith) }
+    record { sign = g.Minus; digits = decimal (suc n); spells = refl; same = ap (λ (k : ℕ). neg_ℤ (pos k)) is; in_range = subst (λ (k : ℕ). IsNumber (neg_ℤ (pos k))) (sym is) small; are_digits = decimal_digits (suc n) (omega arith) }
 
 pub character_spelled : (code : ℕ) → code ≤ 255 → IsSpelled (pos code)
 character_spelled code small = natural_spelled code (omega arith)

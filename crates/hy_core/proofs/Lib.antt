@@ -1,10 +1,6 @@
-pub mod AloneLemmas
 pub mod Behaving
-pub mod BuiltParts
 pub mod Comparing
 pub mod Forms
-pub mod MainLemmas
-pub mod Meanings
 pub mod Resolving
 pub mod Rules
 pub mod Runs
@@ -13,5 +9,6 @@ pub mod SamePrograms
 pub mod Simulating
 pub mod SimulatingHere
 pub mod Source
+pub mod SyntaxLemmas
 pub mod Timing
 pub mod WorkedRuns

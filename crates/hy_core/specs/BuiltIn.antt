@@ -1,6 +1,6 @@
 -- What each built-in of the module 'erlang' gives. The built-ins and their meaning are those of
 -- Erlang; the range of numbers and the reason 'system_limit' are this project's own.
-use Rattle.std.specs.Prelude.{ℕ, zero, suc, ◌==◌, ◌&&◌, ◌||◌, if◌then◌else◌, List, [], ◌∷◌, codes, Option, Some, None, Bool, true, false, not, ℤ, pos, ◌+ℤ◌, ◌-ℤ◌, ◌*ℤ◌, neg_ℤ, unsigned_abs, int_le, int_div, int_rem}
+use Rattle.std.specs.Prelude.{ℕ, zero, suc, ◌==◌, ◌&&◌, ◌||◌, if◌then◌else◌, List, [], ◌∷◌, codes, Option, Some, None, Bool, true, false, not, ℤ, pos, negsuc, ◌+ℤ◌, ◌-ℤ◌, ◌*ℤ◌, neg_ℤ, unsigned_abs, int_div, int_rem}
 use Rattle.std.specs.Ordering.{int_eq}
 use Rattle.std.specs.Int.{int_bit_and, int_bit_or, int_bit_xor, w64}
 use Rattle.std.specs.Str.{bytes_eq}
@@ -8,7 +8,7 @@ use Rattle.std.specs.declared.cmp.Ordering.{Ordering}
 use Rattle.std.specs.declared.cmp.Ordering.TheVariants.{Less, Equal, Greater}
 use Rattle.hy_terms.specs.Term.{Term, Int, Atom, Pid, Nil, Cons, Tuple, Terms, NoTerms, MoreTerms, size_of}
 use Rattle.hy_terms.specs.Naming.{one_on}
-use Rattle.hy_terms.specs.Range.{least_number, greatest_number}
+use Rattle.hy_terms.specs.Range.{is_in_range}
 use Rattle.hy_terms.specs.TermOrder.{compare}
 use Rattle.hy_core.specs.declared.bif.Bif.{Bif}
 use Rattle.hy_core.specs.declared.bif.Bif.TheVariants as b
@@ -90,9 +90,7 @@ is_tuple _ = false
 
 -- a number from -2^59 to 2^59 - 1
 abbrev pub in_range : ℤ → Answer
-in_range n =
-    if int_le least_number n && int_le n greatest_number then Value (Int n)
-    else system_limit
+in_range n = if is_in_range n then Value (Int n) else system_limit
 
 abbrev pub on_number : Answer → (ℤ → Answer) → Option ℤ → Answer
 on_number refusal f None = refusal

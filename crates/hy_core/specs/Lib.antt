@@ -1,10 +1,8 @@
 pub use Rattle.hy_terms.specs.Naming
-pub mod Alone
 pub mod Annotations
 pub mod BehaviourLaws
 pub mod BuiltIn
 pub mod BuiltInTable
-pub mod Built
 pub mod Bytes
 pub mod Canonical
 pub mod Comparison
@@ -22,7 +20,6 @@ pub mod Grammar
 pub mod Machine
 pub mod Marks
 pub mod Match
-pub mod Meaning
 pub mod NameFaults
 pub mod NodeFaults
 pub mod Nodes
@@ -43,6 +40,7 @@ pub mod SimulationLaws
 pub mod Sites
 pub mod Source
 pub mod SubPatterns
+pub mod Syntax
 pub mod Tables
 pub mod Tokens
 pub mod Worked

@@ -1,6 +1,7 @@
 -- Tokens with what a refusal looks at. Levels and ranges are this project's own.
 use Rattle.std.specs.Prelude.{ℕ, ◌+◌, ◌-◌, ◌*◌, ◌≤◌, ◌<◌, ◌^◌, ℤ, pos, neg_ℤ, List, [], ◌∷◌, map}
 use Rattle.std.specs.List.{AllByRecursion}
+use Rattle.hy_terms.specs.Range.{IsNumber}
 use Rattle.hy_core.specs.declared.token.Word.{Word}
 use Rattle.hy_core.specs.declared.token.Sign.{Sign}
 use Rattle.hy_core.specs.declared.token.Sign.TheVariants as g
@@ -23,8 +24,7 @@ number _ n = pos n
 
 -- the integer is one from -2^59 to 2^59 - 1
 abbrev pub IsInRange : Sign → ℕ → Type 0
-IsInRange g.Minus n = n ≤ 2 ^ 59
-IsInRange _ n = n < 2 ^ 59
+IsInRange sign n = IsNumber (number sign n)
 
 -- What a number at a token is: one of a constant, of any length; a value of the program; an arity.
 pub data Role : Type 0 where

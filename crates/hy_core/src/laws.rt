@@ -8,3 +8,5 @@ pub mod evaluation;
 pub mod runs;
 /// When runs are the same, and how it is shown.
 pub mod simulation;
+/// Trees as definitions compute with them.
+pub mod trees;

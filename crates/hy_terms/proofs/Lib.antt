@@ -4,3 +4,4 @@ mod KeyLemmas
 pub mod LabelledLemmas
 pub mod NamingLemmas
 pub mod OrderLemmas
+pub mod RangeLemmas

@@ -4,12 +4,14 @@
 mod atoms;
 pub mod laws;
 mod memory;
+mod range;
 mod term;
 mod text;
 mod words;
 
 pub use atoms::{AtomFault, Atoms};
 pub use memory::Memory;
+pub use range::{GREATEST_NUMBER, LEAST_NUMBER};
 pub use term::{Colour, Labelled, LabelledTerms, Term, Terms};
 pub use text::{push_atom, push_int, push_pid, push_quoted};
 pub use words::Words;

@@ -1,7 +1,7 @@
 -- What a mode does with modules, by what is written.
 use Rattle.std.proofs.Common.{◌≡◌, ℕ, List, [], ◌∷◌, Option, Result, Ok, Err, refl, sym, subst}
 use Rattle.std.specs.Prelude.{IfOk, OnOk}
-use Rattle.hy_core.specs.Built.{IsBuiltModule}
+use Rattle.hybrid_run.specs.Built.{IsBuiltModule}
 use Rattle.hy_core.specs.declared.tree.Module.{Module}
 use Rattle.outside.specs.Outside.{Appends, AppendsPrefix}
 use Rattle.hybrid_run.specs.Arithmetic.{end_of, output_of, status_of}

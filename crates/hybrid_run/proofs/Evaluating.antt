@@ -5,20 +5,20 @@ use Rattle.std.proofs.lemmas.List.{append-nil}
 use Rattle.std.specs.Prelude.{unwrap_or}
 use Rattle.hy_terms.specs.Term.{Term}
 use Rattle.hy_terms.specs.Naming.{text_of}
-use Rattle.hy_core.specs.Built.{IsBuilt, the_erlang, the_plus, the_display}
+use Rattle.hybrid_run.specs.Built.{IsBuilt, the_erlang, the_plus, the_display}
 use Rattle.hy_core.specs.BuiltIn.{answer}
 use Rattle.hy_core.specs.Computation.{Input, Result, then_run, with_one}
 use Rattle.hy_core.specs.Evaluation.{Wait, answer_end, value_end}
 use Rattle.hy_core.specs.Event.{Event, Printed}
 use Rattle.hy_core.specs.Match.{Env, Bound, lookup}
-use Rattle.hy_core.specs.Meaning.{meaning, inside, first_argument}
+use Rattle.hybrid_run.specs.Meaning.{meaning, inside, first_argument}
 use Rattle.hy_core.specs.Resolve.{place_after}
 use Rattle.hy_core.specs.declared.bif.Bif.TheVariants.{Add}
 use Rattle.hy_core.specs.declared.class.Class.{Class}
 use Rattle.hy_core.specs.declared.tree.Expr.{Expr}
 use Rattle.hy_core.specs.declared.tree.Expr.TheVariants as e
-use Rattle.hy_core.proofs.BuiltParts.{atom_same, let_parts, do_parts, call_parts, IsDisplay, IsSum}
-use Rattle.hy_core.proofs.Meanings.{meaning-Int, meaning-Var, meaning-Let, meaning-Do, meaning-plus, meaning-display}
+use Rattle.hybrid_run.proofs.BuiltParts.{atom_same, let_parts, do_parts, call_parts, IsDisplay, IsSum}
+use Rattle.hybrid_run.proofs.Meanings.{meaning-Int, meaning-Var, meaning-Let, meaning-Do, meaning-plus, meaning-display}
 use Rattle.hybrid_run.specs.Arithmetic.{term_of, outcome_of, env_of, variables_of, displays, Evaluates, EvaluatesUnder, EvaluatesCall}
 use Rattle.hybrid_run.specs.declared.evaluate.Binding.{Binding}
 use Rattle.hybrid_run.specs.declared.value.Value.{Value}

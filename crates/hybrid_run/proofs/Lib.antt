@@ -1,5 +1,7 @@
+pub mod AloneLemmas
 pub mod Answering
 pub mod Bindings
+pub mod BuiltParts
 pub mod CommandReading
 pub mod Doing
 pub mod Evaluating
@@ -7,6 +9,8 @@ pub mod Finishing
 pub mod Linting
 pub mod Lists
 pub mod Loaded
+pub mod MainLemmas
+pub mod Meanings
 pub mod Modules
 pub mod Parts
 pub mod Running

@@ -1,7 +1,7 @@
 -- What a module of the arithmetic part has, and that a module that has it is one.
 use Rattle.std.proofs.Common.{◌≡◌, ℕ, List, [], ◌∷◌, Some, refl, sym, ap, subst, ◌∙◌}
 use Rattle.std.specs.Prelude.{slice_get}
-use Rattle.hy_core.specs.Built.{IsBuilt, IsBuiltModule, built, ExportsMain, main_module, the_main}
+use Rattle.hybrid_run.specs.Built.{IsBuilt, IsBuiltModule, built, ExportsMain, main_module, the_main}
 use Rattle.hy_core.specs.declared.tables.Tables.{Tables}
 use Rattle.hy_core.specs.declared.tree.FunName.{FunName}
 use Rattle.hy_core.specs.declared.tree.Function.{Function}

@@ -1,13 +1,14 @@
 -- What a test of the parts of an expression says of the whole.
-use Rattle.std.proofs.Common.{◌≡◌, ◌⊎◌, ℕ, ◌-◌, ◌^◌, ℤ, pos, neg_ℤ, ◌≤ℤ◌, Bool, false, List, [], ◌∷◌, reverse, sym, subst, ◌∙◌, inl, inr}
+use Rattle.std.proofs.Common.{◌≡◌, ◌⊎◌, ℕ, ℤ, Bool, false, List, [], ◌∷◌, reverse, sym, subst, ◌∙◌, inl, inr}
 use Rattle.std.specs.Prelude.{◌↔◌, IsTrue, Contains}
 use Rattle.std.proofs.lemmas.Bool.{false≢true}
 use Rattle.std.proofs.lemmas.List.{reverse-reverse}
 use Rattle.std.proofs.lemmas.List.Sorted.{Contains-permutation, IsPermutation-reverse}
-use Rattle.hy_core.specs.Built.{IsBuilt, integer, variable, let_in, do_both, sum, display}
+use Rattle.hy_terms.specs.Range.{IsNumber}
+use Rattle.hybrid_run.specs.Built.{IsBuilt, integer, variable, let_in, do_both, sum, display}
 use Rattle.hy_core.specs.declared.tree.Expr.{Expr}
 use Rattle.hy_core.specs.declared.tree.Expr.TheVariants as e
-use Rattle.hy_core.proofs.BuiltParts.{integer_parts, variable_parts, let_parts, do_parts, call_parts, IsDisplay, IsSum}
+use Rattle.hybrid_run.proofs.BuiltParts.{integer_parts, variable_parts, let_parts, do_parts, call_parts, IsDisplay, IsSum}
 use Rattle.hybrid_run.specs.Arithmetic.{IsCall}
 use Rattle.hybrid_run.specs.Parts.{IsBuiltUnder, IsOperation}
 
@@ -17,8 +18,8 @@ reversed_contains xs x = (
   λ h. subst (λ (k : List ℕ). Contains k x) (reverse-reverse xs) (Contains-permutation (reverse xs) (reverse (reverse xs)) x (IsPermutation-reverse (reverse xs)) h),
 )
 
-pub integer_decides : (atoms : List (List ℕ)) (bound : List ℕ) (n : ℤ) (b : Bool) → IsTrue b ↔ ((neg_ℤ (pos (2 ^ 59)) ≤ℤ n) × (n ≤ℤ pos (2 ^ 59 - 1))) → IsTrue b ↔ IsBuilt atoms bound (e.Int n)
-integer_decides atoms bound n b h = (λ t. integer n (h.0 t).0 (h.0 t).1, λ d. h.1 (integer_parts n d))
+pub integer_decides : (atoms : List (List ℕ)) (bound : List ℕ) (n : ℤ) (b : Bool) → IsTrue b ↔ IsNumber n → IsTrue b ↔ IsBuilt atoms bound (e.Int n)
+integer_decides atoms bound n b h = (λ t. integer n (h.0 t), λ d. h.1 (integer_parts n d))
 
 pub variable_decides : (atoms : List (List ℕ)) (bound : List ℕ) (v : ℕ) (b : Bool) → IsTrue b ↔ Contains bound v → IsTrue b ↔ IsBuilt atoms (reverse bound) (e.Var v)
 variable_decides atoms bound v b h =

@@ -3,8 +3,8 @@ use Rattle.std.proofs.Common.{◌≡◌, ℕ, List, [], ◌∷◌, ◌++◌, map
 use Rattle.std.proofs.lemmas.List.{append-nil}
 use Rattle.hy_terms.specs.Term.{Term}
 use Rattle.hy_terms.specs.TermText.{term_text}
-use Rattle.hy_core.specs.Alone.{events_from, lines_of}
-use Rattle.hy_core.specs.Built.{IsBuilt, IsBuiltModule, built, main_module}
+use Rattle.hybrid_run.specs.Alone.{lines_of}
+use Rattle.hybrid_run.specs.Built.{IsBuilt, IsBuiltModule, built, main_module}
 use Rattle.hy_core.specs.BuiltIn.{own_atoms}
 use Rattle.hy_core.specs.Event.{Event, Printed}
 use Rattle.hy_core.specs.Evaluation.{Evaluated}
@@ -17,8 +17,8 @@ use Rattle.hy_core.specs.declared.tree.FunName.{FunName}
 use Rattle.hy_core.specs.declared.tree.Function.{Function}
 use Rattle.hy_core.specs.declared.tree.Module.{Module}
 use Rattle.hybrid_run.specs.declared.evaluate.Binding.{Binding}
-use Rattle.hy_core.proofs.AloneLemmas.{prints_and_ends, prints_and_raises}
-use Rattle.hy_core.proofs.MainLemmas.{main_does}
+use Rattle.hybrid_run.proofs.AloneLemmas.{events_from, prints_and_ends, prints_and_raises}
+use Rattle.hybrid_run.proofs.MainLemmas.{main_does}
 use Rattle.hybrid_run.specs.Arithmetic.{term_of, reason_of, outcome_of, displays, value_text, end_of, output_of, printed_lines, EvaluatesTo, Evaluates}
 use Rattle.hybrid_run.specs.Headline.{names_of, program_of, calls_limit, IsModuleRun, HasRun}
 use Rattle.hybrid_run.specs.declared.value.Value.{Value}

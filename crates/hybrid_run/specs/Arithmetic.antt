@@ -3,14 +3,14 @@ use Rattle.std.specs.Prelude.{◌≡◌, ℕ, List, [], ◌∷◌, ◌++◌, map
 use Rattle.hy_terms.specs.Term.{Term}
 use Rattle.hy_terms.specs.Term as term
 use Rattle.hy_terms.specs.TermText.{term_text}
-use Rattle.hy_core.specs.Alone.{lines_of}
-use Rattle.hy_core.specs.Built.{IsBuilt}
+use Rattle.hybrid_run.specs.Alone.{lines_of}
+use Rattle.hybrid_run.specs.Built.{IsBuilt}
 use Rattle.hy_core.specs.BuiltIn.{own_atoms, truth}
 use Rattle.hy_core.specs.Computation.{Input, Outcome, Values, Raised}
 use Rattle.hy_core.specs.Evaluation.{Wait}
 use Rattle.hy_core.specs.Event.{Event, Printed}
 use Rattle.hy_core.specs.Match.{Env, Empty, Bound}
-use Rattle.hy_core.specs.Meaning.{meaning}
+use Rattle.hybrid_run.specs.Meaning.{meaning}
 use Rattle.hy_core.specs.Output.{outcome_line}
 use Rattle.hy_core.specs.Resolve.{Names, Place}
 use Rattle.hy_core.specs.Resolved.{FunctionTree}

@@ -1,6 +1,6 @@
 -- What the program does with its modules: the run of a module of the arithmetic forms, as the copying machine has it, and the texts of mode `check`.
 use Rattle.std.specs.Prelude.{◌≡◌, ℕ, ◌<◌, ◌^◌, List, [], ◌∷◌, map, Option, Some, Contains}
-use Rattle.hy_core.specs.Built.{IsBuiltModule}
+use Rattle.hybrid_run.specs.Built.{IsBuiltModule}
 use Rattle.hy_core.specs.BuiltIn.{own_atoms}
 use Rattle.hy_core.specs.FullRun.{NeverStopped, IsFullRun}
 use Rattle.hy_core.specs.Canonical.{canonical_text, one_after_another}

@@ -1,8 +1,11 @@
+pub mod Alone
 pub mod Answers
 pub mod Arithmetic
+pub mod Built
 pub mod CommandLine
 pub mod Faults
 pub mod Headline
 pub mod Line
 pub mod Loading
+pub mod Meaning
 pub mod Parts

@@ -1,6 +1,6 @@
 -- What an expression of the arithmetic part has as its parts. This project's own.
 use Rattle.std.specs.Prelude.{◌≡◌, ℕ, List, [], ◌∷◌, Some, slice_get}
-use Rattle.hy_core.specs.Built.{IsBuilt, the_erlang, the_plus, the_display}
+use Rattle.hybrid_run.specs.Built.{IsBuilt, the_erlang, the_plus, the_display}
 use Rattle.hy_core.specs.declared.tree.Expr.{Expr}
 use Rattle.hy_core.specs.declared.tree.Expr.TheVariants as e
 

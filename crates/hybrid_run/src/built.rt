@@ -1,5 +1,5 @@
 ghost use Rattle.std.specs.Prelude.{◌≡◌, ◌↔◌, [], reverse, Some, slice_get, IsTrue, IfOk, OnOk};
-ghost use Rattle.hy_core.specs.Built.{IsBuilt, IsBuiltModule, ExportsMain};
+ghost use Rattle.hybrid_run.specs.Built.{IsBuilt, IsBuiltModule, ExportsMain};
 ghost use Rattle.hybrid_run.specs.Arithmetic.{IsCall};
 ghost use Rattle.hybrid_run.specs.Parts.{IsAtomOf, IsBuiltUnder, IsOperation};
 

@@ -1,5 +1,6 @@
-ghost use Rattle.std.specs.Prelude.{◌≡◌, ◌↔◌, ℕ, ◌-◌, ◌^◌, pos, neg_ℤ, ◌≤ℤ◌, List, [], ◌∷◌, ◌++◌, Contains, IsTrue, IfOk, OnOk, Some};
-ghost use Rattle.hy_core.specs.Built.{IsBuilt, IsBuiltModule};
+ghost use Rattle.std.specs.Prelude.{◌≡◌, ◌↔◌, ℕ, List, [], ◌∷◌, ◌++◌, Contains, IsTrue, IfOk, OnOk, Some};
+ghost use Rattle.hy_terms.specs.Range.{IsNumber};
+ghost use Rattle.hybrid_run.specs.Built.{IsBuilt, IsBuiltModule};
 ghost use Rattle.hy_core.specs.BuiltIn.{answer};
 ghost use Rattle.hy_core.specs.Evaluation.{answer_end};
 ghost use Rattle.hy_core.specs.Match.{lookup};
@@ -11,7 +12,7 @@ ghost use Rattle.hybrid_run.specs.Arithmetic.{term_of, outcome_of, env_of, varia
 
 use crate::value::{Ending, Reason, Value};
 use hy_core::{Expr, Module};
-use hy_terms::Memory;
+use hy_terms::{GREATEST_NUMBER, LEAST_NUMBER, Memory};
 use std::alloc::Global;
 
 /// A variable and what it is bound to.
@@ -21,15 +22,11 @@ pub struct Binding {
     pub value: Value,
 }
 
-const LEAST: i64 = -(1 << 59);
-
-const GREATEST: i64 = (1 << 59) - 1;
-
 /// Whether a number is in the range of the language.
 pub fn is_number(n: i64) -> bool
-    ensures { IsTrue result ↔ ((neg_ℤ (pos (2 ^ 59)) ≤ℤ n) × (n ≤ℤ pos (2 ^ 59 - 1))) }
+    ensures { IsTrue result ↔ IsNumber n }
 {
-    LEAST <= n && n <= GREATEST
+    LEAST_NUMBER <= n && n <= GREATEST_NUMBER
 }
 
 /// What a module displays, in order, and how it ends.

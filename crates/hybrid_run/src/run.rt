@@ -1,5 +1,5 @@
 ghost use Rattle.std.specs.Prelude.{◌≡◌, [], ◌∷◌, IfOk, IfErr, IsErrOf};
-ghost use Rattle.hy_core.specs.Built.{IsBuiltModule};
+ghost use Rattle.hybrid_run.specs.Built.{IsBuiltModule};
 ghost use Rattle.hybrid_run.specs.Faults.{HasWritten, IsOfModule, IsOfOutput};
 ghost use Rattle.hybrid_run.specs.Headline.{Done, Cut, IsBuiltFor, IsDoneStatus};
 ghost use Rattle.outside.specs.Outside.{Rises};

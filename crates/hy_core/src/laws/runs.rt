@@ -1,4 +1,3 @@
-ghost use Rattle.hy_core.specs.Alone.{PrintsAndEnds, PrintsAndRaises};
 ghost use Rattle.hy_core.specs.Evaluated.{LetrecCounts, InputsAreUsed};
 ghost use Rattle.hy_core.specs.ResolvedExample.{IsResolved};
 ghost use Rattle.hy_core.specs.Worked.{
@@ -104,11 +103,4 @@ pub fn letrec_functions_count()
 /// How a spawn and a receive use inputs.
 pub fn inputs_are_used()
     ensures { InputsAreUsed }
-{}
-
-/// Where the first process only prints, and ends or raises, its events in order are a full run. It
-/// writes each text on a line of its own, and then the outcome line.
-pub fn prints_alone()
-    ensures ends { PrintsAndEnds }
-    ensures raises { PrintsAndRaises }
 {}

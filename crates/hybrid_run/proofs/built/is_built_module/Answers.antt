@@ -1,6 +1,6 @@
 use Rattle.std.proofs.Common.{◌≡◌, ℕ, List, [], ◌∷◌, IsTrue, reverse, length, sym, ap, subst, ◌∙◌, arith}
 use Rattle.std.specs.Prelude.{◌↔◌}
-use Rattle.hy_core.specs.Built.{IsBuilt, ExportsMain}
+use Rattle.hybrid_run.specs.Built.{IsBuilt, ExportsMain}
 use Rattle.hy_core.specs.declared.tree.FunName.{FunName}
 use Rattle.hybrid_run.proofs.Evaluating.{if_ok, one_item}
 use Rattle.hybrid_run.proofs.Modules.{module_is_built, main_of_built}

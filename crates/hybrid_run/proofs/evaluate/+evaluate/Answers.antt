@@ -1,6 +1,6 @@
 use Rattle.std.proofs.Common.{rules, ◌≡◌, ◌∷◌, [], refl, sym, subst, arith, length, w64, SFits}
 use Rattle.std.proofs.lemmas.Int.{to_z-of_z}
-use Rattle.hy_core.specs.Built.{IsBuilt}
+use Rattle.hybrid_run.specs.Built.{IsBuilt}
 use Rattle.hy_core.specs.declared.tree.Expr.{Expr}
 use Rattle.hybrid_run.specs.Arithmetic.{variables_of}
 use Rattle.hybrid_run.specs.declared.value.Ending.TheVariants.{Gives, Raises}

@@ -1,5 +1,5 @@
 use Rattle.std.proofs.Common.{◌≡◌, List, ℕ, sym, ap, subst, ◌∙◌, get_or}
-use Rattle.hy_core.specs.Built.{IsBuilt}
+use Rattle.hybrid_run.specs.Built.{IsBuilt}
 use Rattle.hybrid_run.specs.Arithmetic.{variables_of}
 use Rattle.hybrid_run.proofs.Running.{body_built, module_runs, from_nothing}
 use Rattle.hybrid_run.proofs.evaluate.evaluate_module.Goals as goal

@@ -1,15 +1,16 @@
 -- What the parts of an arithmetic expression are built of.
-use Rattle.std.proofs.Common.{◌≡◌, ◌⊎◌, ℕ, ◌-◌, ◌^◌, ℤ, pos, neg_ℤ, ◌≤ℤ◌, List, [], ◌∷◌, Some, refl, sym, ap, subst, ◌∙◌, inl, inr}
+use Rattle.std.proofs.Common.{◌≡◌, ◌⊎◌, ℕ, ℤ, List, [], ◌∷◌, Some, refl, sym, ap, subst, ◌∙◌, inl, inr}
 use Rattle.std.specs.Prelude.{Contains, slice_get}
-use Rattle.hy_core.specs.Built.{IsBuilt, integer, variable, let_in, do_both, sum, display}
-use Rattle.hy_core.specs.Built.{the_erlang, the_plus, the_display}
+use Rattle.hy_terms.specs.Range.{IsNumber}
+use Rattle.hybrid_run.specs.Built.{IsBuilt, integer, variable, let_in, do_both, sum, display}
+use Rattle.hybrid_run.specs.Built.{the_erlang, the_plus, the_display}
 use Rattle.hy_core.specs.declared.tree.Expr.{Expr}
 use Rattle.hy_core.specs.declared.tree.Expr.TheVariants as e
 use Rattle.hy_core.specs.declared.tree.Expr.TheOpen as layer
 use Rattle.hy_core.specs.declared.tree.Expr.TheViews.{out-Expr, outs-Int, outs-Var, outs-Let, outs-Do, outs-Call, outs-Atom}
 
 let_from : {atoms : List (List ℕ)} {bound : List ℕ} {z : Expr} → IsBuilt atoms bound z → (xs : List ℕ) (x y : Expr) → z ≡ e.Let xs x y → (v : ℕ) × (xs ≡ v ∷ []) × IsBuilt atoms bound x × IsBuilt atoms (v ∷ bound) y
-let_from (integer n low high) xs x y h = absurd cc
+let_from (integer n is) xs x y h = absurd cc
 let_from (variable v is) xs x y h = absurd cc
 let_from {atoms = atoms} {bound = bound} (let_in {x = p} {y = q} v d1 d2) xs x y h =
     let same : layer.Let (v ∷ []) p q ≡ layer.Let xs x y = sym (outs-Let (v ∷ []) p q) ∙ ap out-Expr h ∙ outs-Let xs x y in
@@ -22,7 +23,7 @@ let_from (sum m k p q d1 d2) xs x y h = absurd cc
 let_from (display m k p q d1) xs x y h = absurd cc
 
 do_from : {atoms : List (List ℕ)} {bound : List ℕ} {z : Expr} → IsBuilt atoms bound z → (x y : Expr) → z ≡ e.Do x y → IsBuilt atoms bound x × IsBuilt atoms bound y
-do_from (integer n low high) x y h = absurd cc
+do_from (integer n is) x y h = absurd cc
 do_from (variable v is) x y h = absurd cc
 do_from (let_in v d1 d2) x y h = absurd cc
 do_from {atoms = atoms} {bound = bound} (do_both {x = p} {y = q} d1 d2) x y h =
@@ -33,11 +34,11 @@ do_from {atoms = atoms} {bound = bound} (do_both {x = p} {y = q} d1 d2) x y h =
 do_from (sum m k p q d1 d2) x y h = absurd cc
 do_from (display m k p q d1) x y h = absurd cc
 
-integer_from : {atoms : List (List ℕ)} {bound : List ℕ} {z : Expr} → IsBuilt atoms bound z → (n : ℤ) → z ≡ e.Int n → (neg_ℤ (pos (2 ^ 59)) ≤ℤ n) × (n ≤ℤ pos (2 ^ 59 - 1))
-integer_from (integer m low high) n h =
+integer_from : {atoms : List (List ℕ)} {bound : List ℕ} {z : Expr} → IsBuilt atoms bound z → (n : ℤ) → z ≡ e.Int n → IsNumber n
+integer_from (integer m is) n h =
     let same : layer.Int m ≡ layer.Int n = sym (outs-Int m) ∙ ap out-Expr h ∙ outs-Int n in
     let this : m ≡ n = cc in
-    (subst (λ (k : ℤ). neg_ℤ (pos (2 ^ 59)) ≤ℤ k) this low, subst (λ (k : ℤ). k ≤ℤ pos (2 ^ 59 - 1)) this high)
+    subst IsNumber this is
 integer_from (variable v is) n h = absurd cc
 integer_from (let_in v d1 d2) n h = absurd cc
 integer_from (do_both d1 d2) n h = absurd cc
@@ -45,7 +46,7 @@ integer_from (sum m k p q d1 d2) n h = absurd cc
 integer_from (display m k p q d1) n h = absurd cc
 
 variable_from : {atoms : List (List ℕ)} {bound : List ℕ} {z : Expr} → IsBuilt atoms bound z → (x : ℕ) → z ≡ e.Var x → Contains bound x
-variable_from (integer n low high) x h = absurd cc
+variable_from (integer n is) x h = absurd cc
 variable_from {bound = bound} (variable v is) x h =
     let same : layer.Var v ≡ layer.Var x = sym (outs-Var v) ∙ ap out-Expr h ∙ outs-Var x in
     let this : v ≡ x = cc in
@@ -81,7 +82,7 @@ pub record IsSum (atoms : List (List ℕ)) (bound : List ℕ) (m k : Expr) (args
   pub built_right : IsBuilt atoms bound right
 
 call_from : {atoms : List (List ℕ)} {bound : List ℕ} {z : Expr} → IsBuilt atoms bound z → (m k : Expr) (args : List Expr) → z ≡ e.Call m k args → IsDisplay atoms bound m k args ⊎ IsSum atoms bound m k args
-call_from (integer n low high) m k args h = absurd cc
+call_from (integer n is) m k args h = absurd cc
 call_from (variable v is) m k args h = absurd cc
 call_from (let_in v d1 d2) m k args h = absurd cc
 call_from (do_both d1 d2) m k args h = absurd cc
@@ -92,7 +93,7 @@ call_from (display {x = x} a b p q d1) m k args h =
     let same : layer.Call (e.Atom a) (e.Atom b) (x ∷ []) ≡ layer.Call m k args = sym (outs-Call (e.Atom a) (e.Atom b) (x ∷ [])) ∙ ap out-Expr h ∙ outs-Call m k args in
     inl (record { module_atom = a; name_atom = b; part = x; is_module = cc; is_name = cc; is_args = cc; erlang = p; name = q; built = d1 })
 
-pub integer_parts : {atoms : List (List ℕ)} {bound : List ℕ} (n : ℤ) → IsBuilt atoms bound (e.Int n) → (neg_ℤ (pos (2 ^ 59)) ≤ℤ n) × (n ≤ℤ pos (2 ^ 59 - 1))
+pub integer_parts : {atoms : List (List ℕ)} {bound : List ℕ} (n : ℤ) → IsBuilt atoms bound (e.Int n) → IsNumber n
 integer_parts n d = integer_from d n refl
 
 pub variable_parts : {atoms : List (List ℕ)} {bound : List ℕ} (x : ℕ) → IsBuilt atoms bound (e.Var x) → Contains bound x

@@ -1,5 +1,5 @@
 -- The run of a process that neither spawns nor receives, and only prints.
-use Rattle.std.proofs.Common.{◌≡◌, ℕ, suc, List, [], ◌∷◌, ◌++◌, map, length, Option, Some, None, if◌then◌else◌, refl, sym, ap, ◌∙◌, append_assoc, eq-eqb, ◌+◌, arith}
+use Rattle.std.proofs.Common.{◌≡◌, ℕ, zero, suc, Bool, List, [], ◌∷◌, ◌++◌, map, length, Option, Some, None, if◌then◌else◌, refl, sym, ap, ◌∙◌, append_assoc, eq-eqb, ◌+◌, arith}
 use Rattle.std.proofs.lemmas.List.{append-nil, length-append, length-map}
 use Rattle.std.specs.Prelude.{slice_get}
 use Rattle.hy_core.specs.declared.class.Class.{Class}
@@ -9,15 +9,20 @@ use Rattle.hy_terms.specs.Term.{Term}
 use Rattle.hy_terms.specs.TermText.{term_text}
 use Rattle.hy_core.specs.declared.end.Cause.{Cause}
 use Rattle.hy_core.specs.declared.end.End.TheVariants.{Ended, Raised}
-use Rattle.hy_core.specs.Alone.{events_from, lines_of}
+use Rattle.hybrid_run.specs.Alone.{lines_of}
 use Rattle.hy_core.specs.Computation as outcome
 use Rattle.hy_core.specs.Computation.{Input, Values, Result}
-use Rattle.hy_core.specs.Evaluation.{Evaluated}
+use Rattle.hy_core.specs.Evaluation.{Evaluated, accepts}
 use Rattle.hy_core.specs.Event.{Event, Printed}
 use Rattle.hy_core.specs.FullRun.{IsFullRun, runs_of, behaviour_of}
 use Rattle.hy_core.specs.Machine.{Behaviour, Process, Configuration, IsThrough, after_steps, after_step, event_step, start, if_at}
 use Rattle.hy_core.specs.Output.{outcome_line}
-use Rattle.hy_core.specs.Resolved.{FunctionTree}
+use Rattle.hy_core.specs.Resolved.{FunctionTree, Timeout}
+
+-- the events of pid 0 at so many places, from this place on
+abbrev pub events_from : (place : ℕ) → (count : ℕ) → List Step
+events_from place zero = []
+events_from place (suc count) = record { pid = 0; item = item.Event place } ∷ events_from (suc place) count
 
 pub if_at_same : {A : Type 0} (n : ℕ) (x : A) → if_at n n x ≡ Some x
 if_at_same n x = ap (λ b. if b then Some x else None) (eq-eqb n n refl)

@@ -1,6 +1,7 @@
 -- Trees of the arithmetic part: what they are built of, apart from any text. This project's own.
-use Rattle.std.specs.Prelude.{◌≡◌, ℕ, ◌-◌, ◌^◌, ℤ, pos, neg_ℤ, ◌≤ℤ◌, List, [], ◌∷◌, codes, Some, Contains, slice_get}
+use Rattle.std.specs.Prelude.{◌≡◌, ℕ, ℤ, List, [], ◌∷◌, codes, Some, Contains, slice_get}
 use Rattle.std.specs.List.{AllByRecursion}
+use Rattle.hy_terms.specs.Range.{IsNumber}
 use Rattle.hy_core.specs.declared.tables.Tables.{Tables}
 use Rattle.hy_core.specs.declared.tree.FunName.{FunName}
 use Rattle.hy_core.specs.declared.tree.Expr.{Expr}
@@ -39,7 +40,7 @@ ExportsMain main exports = (exports ≡ [] → ⊥) × AllByRecursion (λ f. f �
 
 -- an expression of the six forms, by the texts of the atoms, where the variables of these numbers are bound
 pub data IsBuilt : List (List ℕ) → List ℕ → Expr → Type 0 where
-  integer : {atoms : List (List ℕ)} {bound : List ℕ} (n : ℤ) → neg_ℤ (pos (2 ^ 59)) ≤ℤ n → n ≤ℤ pos (2 ^ 59 - 1) → IsBuilt atoms bound (e.Int n)
+  integer : {atoms : List (List ℕ)} {bound : List ℕ} (n : ℤ) → IsNumber n → IsBuilt atoms bound (e.Int n)
   variable : {atoms : List (List ℕ)} {bound : List ℕ} (v : ℕ) → Contains bound v → IsBuilt atoms bound (e.Var v)
   let_in : {atoms : List (List ℕ)} {bound : List ℕ} {x y : Expr} (v : ℕ) → IsBuilt atoms bound x → IsBuilt atoms (v ∷ bound) y → IsBuilt atoms bound (e.Let (v ∷ []) x y)
   do_both : {atoms : List (List ℕ)} {bound : List ℕ} {x y : Expr} → IsBuilt atoms bound x → IsBuilt atoms bound y → IsBuilt atoms bound (e.Do x y)

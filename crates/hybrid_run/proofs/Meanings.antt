@@ -14,7 +14,7 @@ use Rattle.hy_core.specs.Computation.{Input, Values, then_run, with_one, ended}
 use Rattle.hy_core.specs.Evaluation.{Doing, Evaluated, eval, evaluated, denote, answer_end, value_end, in_env, act_on}
 use Rattle.hy_core.specs.Event.{Printed}
 use Rattle.hy_core.specs.Match.{Env, Bound, lookup, bind_variables}
-use Rattle.hy_core.specs.Meaning.{meaning, inside, first_argument}
+use Rattle.hybrid_run.specs.Meaning.{meaning, inside, first_argument}
 use Rattle.hy_core.specs.Resolve.{Names, Place, Part, expr_step, part_of, resolved, place_after, erlang_operation, named_call}
 use Rattle.hy_core.specs.Resolved as r
 use Rattle.hy_core.specs.Resolved.{FunctionTree, Expression}

@@ -1,9 +1,9 @@
 -- What the one function of a module does.
 use Rattle.std.proofs.Common.{◌≡◌, ℕ, List, [], ◌∷◌, refl}
 use Rattle.hy_core.specs.FullRun.{runs_of}
-use Rattle.hy_core.specs.Built.{main_module}
+use Rattle.hybrid_run.specs.Built.{main_module}
 use Rattle.hy_core.specs.Match.{Empty}
-use Rattle.hy_core.specs.Meaning.{meaning}
+use Rattle.hybrid_run.specs.Meaning.{meaning}
 use Rattle.hy_core.specs.Resolve.{Names, function_trees}
 use Rattle.hy_core.specs.declared.tables.Tables.{Tables}
 use Rattle.hy_core.specs.declared.tree.FunName.{FunName}
