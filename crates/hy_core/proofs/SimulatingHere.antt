@@ -2,9 +2,9 @@
 use Rattle.std.proofs.Common.{◌≡◌, ℕ, List, [], map, Some, refl, sym, ◌∙◌, subst}
 use Rattle.std.proofs.lemmas.List.{map-id}
 use Rattle.std.specs.List.{All}
-use Rattle.hy_core.specs.Comparison.{Waiting, SameRun}
-use Rattle.hy_core.specs.Computation.{Computation, Raise, Call, attempt, bind, Input, run, dones}
-use Rattle.hy_core.specs.Simulation.{Simulates}
+use Rattle.hy_core.specs.Comparison.{Waiting, SameWait, SameRun}
+use Rattle.hy_core.specs.Computation.{Computation, Give, Raise, Fault, Act, Call, Birth, Receive, attempt, bind, Input, run, dones}
+use Rattle.hy_core.specs.Simulation.{Simulates, map_calls}
 use Rattle.hy_core.proofs.Comparing.{map_inputs-id}
 use Rattle.hy_core.proofs.Simulating.{simulates_attempt, simulates_run, simulates_does}
 
@@ -37,3 +37,15 @@ module _ {V C F F' A W W' : Type 0} (Allowed : A → Type 0) (Calls : F → List
     alike_does n p q is s =
         subst (λ js. All Allowed (dones (run (λ a. a) [] body n p js).moments)) (map_inputs-id is)
         (simulates_does (λ v. v) (λ a. a) [] Some Allowed Calls waiting waiting' body body' bodies n p q is s)
+
+-- what has other functions and waits simulates, where what is seen of the waits is the same
+module _ {V C F F' A W W' : Type 0} (callee : F → F') (wait : W → W') (Allowed : A → Type 0) (all : (a : A) → Allowed a) (waiting : Waiting V W) (waiting' : Waiting V W') (same : (w : W) → SameWait (λ v. v) waiting waiting' w (wait w)) where
+  pub mapped_alike : (p : Computation V C F A W) → Alike Allowed (λ f vs g us. (g ≡ callee f) × (us ≡ vs)) waiting waiting' p (map_calls callee wait p)
+  mapped_alike (Give vs) = map-id vs
+  mapped_alike (Raise c v) = (refl, refl)
+  mapped_alike Fault = tt
+  mapped_alike (Act a p) = (refl, all a, mapped_alike p)
+  mapped_alike (Call f vs k h) =
+      alike_call Allowed (λ f vs g us. (g ≡ callee f) × (us ≡ vs)) waiting waiting' f vs (callee f) vs k (λ ws. map_calls callee wait (k ws)) h (λ c v. map_calls callee wait (h c v)) (refl, refl) (λ ws. mapped_alike (k ws)) (λ c v. mapped_alike (h c v))
+  mapped_alike (Birth k) = λ pid. mapped_alike (k pid)
+  mapped_alike (Receive w k p) = (same w, (λ v. mapped_alike (k v)), mapped_alike p)

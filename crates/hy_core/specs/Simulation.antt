@@ -30,3 +30,15 @@ module _ {V V' C F F' A A' W W' : Type 0} (value : V' → V) (shown : A' → Opt
         SameWait value waiting waiting' w w' × ((v : V') → Simulates (k (value v)) (k' v))
         × Simulates p q
     Simulates _ _ = ⊥
+
+-- the same computation, whose functions and waits are others
+module _ {V C F F' A W W' : Type 0} (callee : F → F') (wait : W → W') where
+  abbrev pub map_calls : Computation V C F A W → Computation V C F' A W'
+  map_calls (Give vs) = Give vs
+  map_calls (Raise c v) = Raise c v
+  map_calls Fault = Fault
+  map_calls (Act a p) = Act a (map_calls p)
+  map_calls (Call f vs k h) =
+      Call (callee f) vs (λ ws. map_calls (k ws)) (λ c v. map_calls (h c v))
+  map_calls (Birth k) = Birth (λ pid. map_calls (k pid))
+  map_calls (Receive w k p) = Receive (wait w) (λ v. map_calls (k v)) (map_calls p)

@@ -1,15 +1,23 @@
 -- Laws of simulation. Each is the clause of a function in the module `laws`.
 use Rattle.std.specs.Prelude.{◌≡◌, ℕ, List, [], map, Option, None, Some}
 use Rattle.std.specs.List.{filter_map, All}
-use Rattle.hy_core.specs.Comparison.{Waiting, map_input, SameRun}
+use Rattle.hy_core.specs.Comparison.{Waiting, map_input, SameWait, SameRun}
 use Rattle.hy_core.specs.Computation.{Computation, Act, attempt, Input, Run, run, dones}
-use Rattle.hy_core.specs.Simulation.{Simulates}
+use Rattle.hy_core.specs.Simulation.{Simulates, map_calls}
 
 -- a computation simulates itself, where a call stands for itself
 abbrev pub SimulatesItself : (V C F A W : Type 0) → Type 0
 SimulatesItself V C F A W =
     (waiting : Waiting V W) (p : Computation V C F A W)
     → Simulates (λ v. v) Some (λ a. Unit {0}) (λ f vs g us. (g ≡ f) × (us ≡ vs)) waiting waiting p p
+
+-- and so does one whose functions and waits are others, where what is seen of the waits is the same
+abbrev pub SimulatedByMapped : (V C F F' A W W' : Type 0) → Type 0
+SimulatedByMapped V C F F' A W W' =
+    (callee : F → F') (wait : W → W') (waiting : Waiting V W) (waiting' : Waiting V W')
+    → ((w : W) → SameWait (λ v. v) waiting waiting' w (wait w)) → (p : Computation V C F A W)
+    → Simulates (λ v. v) Some (λ a. Unit {0}) (λ f vs g us. (g ≡ callee f) × (us ≡ vs)) waiting
+    waiting' p (map_calls callee wait p)
 
 -- Allowed and Calls: what holds of each act of the first, and which calls stand for which
 module _ {V V' F F' A : Type 0} (C A' W W' : Type 0) (Allowed : A → Type 0)
