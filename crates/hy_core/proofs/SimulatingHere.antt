@@ -1,5 +1,5 @@
 -- Simulation over the same values, where each act is shown: what passes over programs are proved with.
-use Rattle.std.proofs.Common.{◌≡◌, ℕ, List, [], map, Some, refl, sym, ◌∙◌, subst}
+use Rattle.std.proofs.Common.{◌≡◌, ℕ, List, [], map, Some, refl, sym, ap, ◌∙◌, subst}
 use Rattle.std.proofs.lemmas.List.{map-id}
 use Rattle.std.specs.List.{All}
 use Rattle.hy_core.specs.Comparison.{Waiting, SameWait, SameRun}
@@ -49,3 +49,13 @@ module _ {V C F F' A W W' : Type 0} (callee : F → F') (wait : W → W') (Allow
       alike_call Allowed (λ f vs g us. (g ≡ callee f) × (us ≡ vs)) waiting waiting' f vs (callee f) vs k (λ ws. map_calls callee wait (k ws)) h (λ c v. map_calls callee wait (h c v)) (refl, refl) (λ ws. mapped_alike (k ws)) (λ c v. mapped_alike (h c v))
   mapped_alike (Birth k) = λ pid. mapped_alike (k pid)
   mapped_alike (Receive w k p) = (same w, (λ v. mapped_alike (k v)), mapped_alike p)
+
+module _ {V C F F' A W W' : Type 0} (callee : F → F') (wait : W → W') where
+  pub map_attempt : (p : Computation V C F A W) (k : List V → Computation V C F A W) (h : C → V → Computation V C F A W) → map_calls callee wait (attempt p k h) ≡ attempt (map_calls callee wait p) (λ vs. map_calls callee wait (k vs)) (λ c v. map_calls callee wait (h c v))
+  map_attempt (Give vs) k h = refl
+  map_attempt (Raise c v) k h = refl
+  map_attempt Fault k h = refl
+  map_attempt (Act a p) k h = ap (Act a) (map_attempt p k h)
+  map_attempt (Call f vs g j) k h = λ i. Call (callee f) vs (λ us. map_attempt (g us) k h i) (λ c v. map_attempt (j c v) k h i)
+  map_attempt (Birth g) k h = λ i. Birth (λ pid. map_attempt (g pid) k h i)
+  map_attempt (Receive w g p) k h = λ i. Receive (wait w) (λ v. map_attempt (g v) k h i) (map_attempt p k h i)

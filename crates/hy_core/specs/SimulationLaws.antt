@@ -19,6 +19,15 @@ SimulatedByMapped V C F F' A W W' =
     → Simulates (λ v. v) Some (λ a. Unit {0}) (λ f vs g us. (g ≡ callee f) × (us ≡ vs)) waiting
     waiting' p (map_calls callee wait p)
 
+-- of a part and what follows it, each is mapped
+abbrev pub MapsParts : (V C F F' A W W' : Type 0) → Type 0
+MapsParts V C F F' A W W' =
+    (callee : F → F') (wait : W → W') (p : Computation V C F A W)
+    (k : List V → Computation V C F A W) (h : C → V → Computation V C F A W)
+    → map_calls callee wait (attempt p k h)
+    ≡ attempt (map_calls callee wait p) (λ vs. map_calls callee wait (k vs))
+    (λ c v. map_calls callee wait (h c v))
+
 -- Allowed and Calls: what holds of each act of the first, and which calls stand for which
 module _ {V V' F F' A : Type 0} (C A' W W' : Type 0) (Allowed : A → Type 0)
     (Calls : F → List V → F' → List V' → Type 0)

@@ -19,6 +19,7 @@ ghost use Rattle.hy_core.specs.declared.end.Cause.{Cause};
 ghost use Rattle.hy_terms.specs.Term.{Term};
 ghost use Rattle.hy_core.specs.SimulationLaws.{
   GoesThroughParts,
+  MapsParts,
   RunsTheSame,
   SimulatedByMapped,
   SimulatesItself,
@@ -82,7 +83,8 @@ pub fn computations_simulate_themselves<Value, Class, Callee, Act, Wait>()
 /// A computation simulates another where it differs in the functions that it calls and in what its
 /// `receive`s wait for, if their timeouts and the messages that they accept are the same.
 pub fn mapped_computations_simulate<Value, Class, Callee, NextCallee, Act, Wait, NextWait>()
-    ensures { SimulatedByMapped Value Class Callee NextCallee Act Wait NextWait }
+    ensures simulates { SimulatedByMapped Value Class Callee NextCallee Act Wait NextWait }
+    ensures parts { MapsParts Value Class Callee NextCallee Act Wait NextWait }
 {}
 
 /// A computation may do acts that show nothing before it does what it simulates.
