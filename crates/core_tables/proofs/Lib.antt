@@ -6,9 +6,7 @@ pub mod InfosLemmas
 pub mod KeyLemmas
 pub mod LocalLemmas
 pub mod ModulesLemmas
-pub mod NodesLemmas
 pub mod NumberedLemmas
-pub mod PatternsLemmas
 pub mod PlacesLemmas
 pub mod SiteLemmas
 pub mod TableLemmas

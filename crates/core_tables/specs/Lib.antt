@@ -3,6 +3,4 @@ pub mod CallParts
 pub mod LocalCount
 pub mod NumberedModules
 pub mod NumberedParts
-pub mod Parts
 pub mod SiteCount
-pub mod PatternParts

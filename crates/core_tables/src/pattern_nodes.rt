@@ -1,5 +1,5 @@
 ghost use Rattle.std.specs.Prelude.{◌≡◌, ◌+◌, length, OnOk};
-ghost use Rattle.core_tables.specs.PatternParts.{end_patterns, within_layer};
+ghost use Rattle.hy_core.specs.PatternParts.{end_patterns, within_layer};
 ghost use Rattle.hy_core.specs.declared.tree.Pattern.TheViews.{out-Pattern};
 ghost use Rattle.hy_core.specs.SubPatterns.{within, patterns_in, is_nil_layer};
 
@@ -22,7 +22,7 @@ fn pass(node: &mut u32) -> Result<(), Memory>
 
 // Goes past the nodes of a pattern.
 #[cycle(count)]
-#[tactic(auto, using(crate::proofs::PatternsLemmas::within_by_layer))]
+#[tactic(auto, using(hy_core::proofs::PatternsLemmas::within_by_layer))]
 fn pass_pattern(node: &mut u32, pattern: &Pattern) -> Result<(), Memory>
     ensures { OnOk result (node.new ≡ node.old + 1 + length (within pattern.now)) }
 {

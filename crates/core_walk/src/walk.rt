@@ -1,7 +1,7 @@
 ghost use Rattle.std.specs.Prelude.{◌≡◌, ◌+◌, [], ◌∷◌, OnOk};
 ghost use Rattle.hy_core.specs.Nodes.{AnExpr, node, nodes, clause_nodes, definition_nodes, pattern_nodes, at_place, binding, for_one, for_values, inside, is_nil_layer, names_of};
 ghost use Rattle.hy_core.specs.declared.tree.Expr.TheViews.{out-Expr};
-ghost use Rattle.core_tables.specs.Parts.{each_node, end_nodes, part_nodes};
+ghost use Rattle.hy_core.specs.NodeParts.{each_node, end_nodes, part_nodes};
 ghost use Rattle.core_walk.specs.Walk.{Walks, context_of, form_at};
 
 use crate::cases::needs_of_case;

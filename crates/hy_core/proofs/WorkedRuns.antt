@@ -7,23 +7,23 @@ use Rattle.hy_core.specs.declared.end.End.{End}
 use Rattle.hy_core.specs.declared.step.Step.{Step}
 use Rattle.hy_core.specs.FullRun.{NeverStopped, IsFullRun, IsRunOf, runs_of, after_run}
 use Rattle.hy_core.specs.Resolved.{FunctionTree}
-use Rattle.hy_core.specs.Source.{Source, module_trees}
+use Rattle.hy_core.specs.Syntax.{Syntax, module_trees}
 use Rattle.hy_core.specs.Worked.{atoms, names, event, took, lapsed, modules, program, limit, nothing, least, past_the_range, least_divided, division, two_messages, no_clauses, only_b, waits_for_ever, either, guarded, shown_in_order, printed_source, ordered_source, to_no_pid, case_of_nothing, fails_in_a_function, fails_to_match, throws, reversed, parent, child, two_and_take, one_and_poll, NumbersHaveARange, DivisionCuts, ReceiveSelects, ReceiveLapsesOrWaits, MessageBeforeClause, GuardsHoldByTrue, PartsGoFromLeft, TermsPrint, TermsAreOrdered, RaisesEnd, PreludeCounts, StartCostsNothing, ParentAndChild, AreNoRuns}
-use Rattle.hy_core.proofs.Source.{program_is, modules_read}
+use Rattle.hy_core.proofs.Written.{program_is, modules_written}
 
-abbrev read : Source → Source → List FunctionTree
-read main other = modules_read names 0 (modules main other)
+abbrev read : Syntax → Syntax → List FunctionTree
+read main other = modules_written names [] (modules main other)
 
 -- the program as it is read
-is_read : (main other : Source) → read main other ≡ program main other
-is_read main other = sym (program_is names (modules main other))
+is_read : (main other : Syntax) → read main other ≡ program main other
+is_read main other = sym (program_is names [] (modules main other))
 
 -- a run of the program as it is read, whose main is function 0
-run_with : (main other : Source) (calls : ℕ) (steps : List Step) (ends : List End) (output : List ℕ) → IsFullRun (read main other) atoms calls NeverStopped 0 steps ends output → IsRunOf names (module_trees (modules main other)) calls NeverStopped steps ends output
+run_with : (main other : Syntax) (calls : ℕ) (steps : List Step) (ends : List End) (output : List ℕ) → IsFullRun (read main other) atoms calls NeverStopped 0 steps ends output → IsRunOf names [] (module_trees (modules main other)) calls NeverStopped steps ends output
 run_with main other calls steps ends output h =
     record { main = 0; is_main = refl; run = subst (λ p. IsFullRun p atoms calls NeverStopped 0 steps ends output) (is_read main other) h }
 
-as_read : (main other : Source) (steps : List Step) (ends : List End) (output : List ℕ) → IsFullRun (read main other) atoms limit NeverStopped 0 steps ends output → IsRunOf names (module_trees (modules main other)) limit NeverStopped steps ends output
+as_read : (main other : Syntax) (steps : List Step) (ends : List End) (output : List ℕ) → IsFullRun (read main other) atoms limit NeverStopped 0 steps ends output → IsRunOf names [] (module_trees (modules main other)) limit NeverStopped steps ends output
 as_read main other steps ends output h = run_with main other limit steps ends output h
 
 pub numbers_have_a_range : NumbersHaveARange

@@ -1,5 +1,5 @@
 -- Runs of a program on the copying machine: this project's own.
-use Rattle.std.specs.Prelude.{◌≡◌, ℕ, ◌==◌, ◌&&◌, if◌then◌else◌, List, [], ◌∷◌, codes, Option, Some, None}
+use Rattle.std.specs.Prelude.{◌≡◌, ℕ, suc, ◌==◌, ◌&&◌, if◌then◌else◌, List, [], ◌∷◌, codes, Option, Some, None}
 use Rattle.std.specs.Str.{bytes_eq}
 use Rattle.hy_terms.specs.Term.{Term}
 use Rattle.hy_terms.specs.Naming.{one_on, text_of}
@@ -7,14 +7,20 @@ use Rattle.hy_terms.specs.TermText.{term_text}
 use Rattle.hy_core.specs.declared.end.Cause.{Cause}
 use Rattle.hy_core.specs.declared.end.End.{End}
 use Rattle.hy_core.specs.declared.info.FunInfo.{FunInfo}
+use Rattle.hy_core.specs.declared.info.SiteInfo.{SiteInfo}
 use Rattle.hy_core.specs.declared.step.Step.{Step}
 use Rattle.hy_core.specs.declared.tree.Module.{Module}
+use Rattle.hy_core.specs.declared.tree.Program.{Program}
 use Rattle.hy_core.specs.Computation.{Input}
 use Rattle.hy_core.specs.Evaluation.{Evaluated, Wait, evaluated, body_of, Top, accepts}
 use Rattle.hy_core.specs.Machine.{Behaviour, Process, Configuration, after_steps, start, IsFull}
+use Rattle.hy_core.specs.NameFaults.{modules_of}
+use Rattle.hy_core.specs.Numbered.{numbered_program, program_sites}
 use Rattle.hy_core.specs.Output.{run_output}
-use Rattle.hy_core.specs.Resolve.{Names, function_trees}
+use Rattle.hy_core.specs.ProgramTrees.{function_trees}
+use Rattle.hy_core.specs.Resolve.{Names}
 use Rattle.hy_core.specs.Resolved.{FunctionTree}
+use Rattle.hy_core.specs.Tables.{program_atoms, program_functions}
 
 -- the number of 'main'/0 of a module
 abbrev pub main_number : (atoms : List (List ℕ)) → List FunInfo → (module_name : ℕ) → Option ℕ
@@ -52,8 +58,29 @@ abbrev pub main_of : Names → List Module → Option ℕ
 main_of names [] = None
 main_of names (m ∷ ms) = main_number names.atoms names.functions m.name
 
--- a full run of the program of these modules, with these ends and this output
-pub record IsRunOf (names : Names) (modules : List Module) (limit : ℕ) (stopped : Process Term → Cause → Type 0) (steps : List Step) (ends : List End) (output : List ℕ) : Type 0 where
+-- A full run of the functions of these modules, with these ends and this output. The names tell what their
+-- calls name, and the sites are taken in order.
+pub record IsRunOf (names : Names) (sites : List ℕ) (modules : List Module) (limit : ℕ)
+    (stopped : Process Term → Cause → Type 0) (steps : List Step) (ends : List End) (output : List ℕ) : Type 0 where
   pub main : ℕ
   pub is_main : main_of names modules ≡ Some main
-  pub run : IsFullRun (function_trees names modules) names.atoms limit stopped main steps ends output
+  pub run : IsFullRun (function_trees names sites modules) names.atoms limit stopped main steps ends output
+
+-- The same of a program, with its own atoms, functions and sites.
+abbrev pub names_of : Program → Names
+names_of program = record { atoms = program_atoms program; functions = program_functions program }
+
+abbrev pub numbers_from : ℕ → List SiteInfo → List ℕ
+numbers_from n [] = []
+numbers_from n (site ∷ sites) = n ∷ numbers_from (suc n) sites
+
+abbrev pub sites_of : Program → List ℕ
+sites_of program = numbers_from 0 (program_sites program)
+
+abbrev pub trees_of : Program → List FunctionTree
+trees_of program = function_trees (names_of program) (sites_of program) (modules_of (numbered_program program))
+
+abbrev pub IsRun : Program → (limit : ℕ) → (stopped : Process Term → Cause → Type 0)
+    → List Step → List End → (output : List ℕ) → Type 0
+IsRun program limit stopped steps ends output =
+    IsRunOf (names_of program) (sites_of program) (modules_of (numbered_program program)) limit stopped steps ends output

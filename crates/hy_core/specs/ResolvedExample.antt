@@ -6,10 +6,12 @@ use Rattle.hy_core.specs.declared.class.Class.TheVariants.{Error}
 use Rattle.hy_core.specs.declared.info.FunInfo.{FunInfo}
 use Rattle.hy_core.specs.declared.tree.FunName.{FunName}
 use Rattle.hy_core.specs.BuiltIn.{own_atoms}
-use Rattle.hy_core.specs.Resolve.{Names, function_trees}
+use Rattle.hy_core.specs.ProgramTrees.{function_trees}
+use Rattle.hy_core.specs.Resolve.{Names}
 use Rattle.hy_core.specs.Resolved as r
-use Rattle.hy_core.specs.Resolved.{Pattern, Patterns, NoPatterns, MorePatterns, Expression, Expressions, NoExpressions, MoreExpressions, Clauses, NoClauses, MoreClauses, NoFunctions, MoreFunctions, FunctionTree}
-use Rattle.hy_core.specs.Source.{SourcePattern, PVar, PInt, PNil, PStr, PTuple, PList, PAlias, NoP, MoreP, Source, SInt, SAtom, SNil, SStr, SVar, SName, STuple, SList, SValues, SLet, SDo, SCase, SLetrec, SApply, SCall, SPrimop, SReceive, STry, Sources, NoS, MoreS, SourceClauses, NoC, MoreC, NoF, MoreF, SourceModule, module_trees}
+use Rattle.hy_core.specs.Resolved.{Pattern, Patterns, NoPatterns, MorePatterns, Expression, Expressions, NoExpressions, MoreExpressions, Clauses, NoClauses, MoreClauses, NoFunctions, MoreFunctions, FunctionTree, AnyTerm, TheInt, TheNil, TheText, TheTuple, TheList, Alias}
+use Rattle.hy_core.specs.Syntax as syntax
+use Rattle.hy_core.specs.Syntax.{Syntax, Syntaxes, NoSyntax, MoreSyntax, NoDefinitions, MoreDefinitions, ModuleSyntax, module_trees}
 
 -- behind the own atoms: 7 'm', 8 'main', 9 'loop', 10 's', 11 'erlang', 12 '!', 13 'self', 14 '-', 15 '++', 16 'error',
 -- 17 'other', 18 'f', 19 'setelement', 20 'spawn', 21 'match_fail', 22 'infinity', 23 'display'
@@ -27,55 +29,55 @@ info m f = record { «module» = m; name = f }
 abbrev pub names : Names
 names = record { atoms = atoms; functions = info 7 (named 8 0) ∷ info 7 (named 9 2) ∷ info 7 (named 17 1) ∷ info 11 (named 15 2) ∷ info 7 (named 17 1) ∷ [] }
 
-abbrev int : ℕ → Source
-int n = SInt (pos n)
+abbrev int : ℕ → Syntax
+int n = syntax.Int (pos n)
 
-abbrev one : Source → Sources
-one s = MoreS s NoS
+abbrev one : Syntax → Syntaxes
+one s = MoreSyntax s NoSyntax
 
-abbrev both : Source → Source → Sources
-both s t = MoreS s (MoreS t NoS)
+abbrev both : Syntax → Syntax → Syntaxes
+both s t = MoreSyntax s (MoreSyntax t NoSyntax)
 
-abbrev erlang : ℕ → Sources → Source
-erlang f arguments = SCall (SAtom 11) (SAtom f) arguments
+abbrev erlang : ℕ → Syntaxes → Syntax
+erlang f arguments = syntax.Call (syntax.Atom 11) (syntax.Atom f) arguments
 
-abbrev clause : SourcePattern → Source → SourceClauses → SourceClauses
-clause p s cs = MoreC (MoreP p NoP) (SAtom 0) s cs
+abbrev clause : Pattern → Syntax → syntax.Clauses → syntax.Clauses
+clause p s cs = syntax.MoreClauses (MorePatterns p NoPatterns) (syntax.Atom 0) s cs
 
 -- apply 'loop'/2 (3, {'s', 0})
-abbrev main_source : Source
-main_source = SApply (SName (named 9 2)) (both (int 3) (STuple (both (SAtom 10) (int 0))))
+abbrev main_source : Syntax
+main_source = syntax.Apply (syntax.Name (named 9 2)) (both (int 3) (syntax.Tuple 0 (both (syntax.Atom 10) (int 0))))
 
 -- case V0 of <0> -> do erlang:!(erlang:self(), V1) V1; <V2> -> apply 'loop'/2 (erlang:-(V0, 1), {'s', V0}) end
-abbrev loop_source : Source
+abbrev loop_source : Syntax
 loop_source =
-    SCase (SVar 0) (clause (PInt (pos 0)) (SDo (erlang 12 (both (erlang 13 NoS) (SVar 1))) (SVar 1))
-    (clause (PVar 2) (SApply (SName (named 9 2)) (both (erlang 14 (both (SVar 0) (int 1))) (STuple (both (SAtom 10) (SVar 0))))) NoC))
+    syntax.Case (syntax.Var 0) (clause (TheInt (pos 0)) (syntax.Do (erlang 12 (both (erlang 13 NoSyntax) (syntax.Var 1))) (syntax.Var 1))
+    (clause (AnyTerm 2) (syntax.Apply (syntax.Name (named 9 2)) (both (erlang 14 (both (syntax.Var 0) (int 1))) (syntax.Tuple 0 (both (syntax.Atom 10) (syntax.Var 0))))) syntax.NoClauses))
 
 -- letrec 'f'/1 = fun (V1) -> let <V2> = "ab" in erlang:setelement(1, {V1, V2}, [V1|V2])
 -- in do erlang:spawn('m', 'loop', [1, {}])
 --    do case <V0, 2> of <[V3, V4|V5], V6 = {7}> when try V3 of <V7> -> V7 catch <V8, V9> -> 'false' -> apply 'f'/1 (V4) end
 --    receive <"cd"> -> primop 'match_fail' (V0) after 'infinity' -> erlang:display([])
-abbrev other_source : Source
+abbrev other_source : Syntax
 other_source =
-    SLetrec (MoreF (named 18 1) (1 ∷ []) (SLet (2 ∷ []) (SStr (codes "ab")) (erlang 19 (MoreS (int 1) (both (STuple (both (SVar 1) (SVar 2))) (SList (one (SVar 1)) (SVar 2)))))) NoF)
-    (SDo (erlang 20 (MoreS (SAtom 7) (both (SAtom 9) (SList (both (int 1) (STuple NoS)) SNil))))
-    (SDo (SCase (SValues (both (SVar 0) (int 2)))
-    (MoreC (MoreP (PList (MoreP (PVar 3) (MoreP (PVar 4) NoP)) (PVar 5)) (MoreP (PAlias 6 (PTuple (MoreP (PInt (pos 7)) NoP))) NoP))
-    (STry (SVar 3) (7 ∷ []) (SVar 7) (8 ∷ 9 ∷ []) (SAtom 1)) (SApply (SName (named 18 1)) (one (SVar 4))) NoC))
-    (SReceive (clause (PStr (codes "cd")) (SPrimop 21 (one (SVar 0))) NoC) (SAtom 22) (erlang 23 (one SNil)))))
+    syntax.Letrec (MoreDefinitions (named 18 1) (1 ∷ []) (syntax.Let (2 ∷ []) (syntax.Str (codes "ab")) (erlang 19 (MoreSyntax (int 1) (both (syntax.Tuple 0 (both (syntax.Var 1) (syntax.Var 2))) (syntax.ListOf 0 (one (syntax.Var 1)) (syntax.Var 2)))))) NoDefinitions)
+    (syntax.Do (erlang 20 (MoreSyntax (syntax.Atom 7) (both (syntax.Atom 9) (syntax.ListOf 0 (both (int 1) (syntax.Tuple 0 NoSyntax)) syntax.Nil))))
+    (syntax.Do (syntax.Case (syntax.Values (both (syntax.Var 0) (int 2)))
+    (syntax.MoreClauses (MorePatterns (TheList (MorePatterns (AnyTerm 3) (MorePatterns (AnyTerm 4) NoPatterns)) (AnyTerm 5)) (MorePatterns (Alias 6 (TheTuple (MorePatterns (TheInt (pos 7)) NoPatterns))) NoPatterns))
+    (syntax.Try (syntax.Var 3) (7 ∷ []) (syntax.Var 7) (8 ∷ 9 ∷ []) (syntax.Atom 1)) (syntax.Apply (syntax.Name (named 18 1)) (one (syntax.Var 4))) syntax.NoClauses))
+    (syntax.Receive (clause (TheText (codes "cd")) (syntax.Primop 21 (one (syntax.Var 0))) syntax.NoClauses) (syntax.Atom 22) (erlang 23 (one syntax.Nil)))))
 
 -- case V0 of <[]> -> V1; <[V2|V3]> -> [V2|apply '++'/2 (V3, V1)]; <V4> -> erlang:error('badarg') end
-abbrev append_source : Source
+abbrev append_source : Syntax
 append_source =
-    SCase (SVar 0) (clause PNil (SVar 1)
-    (clause (PList (MoreP (PVar 2) NoP) (PVar 3)) (SList (one (SVar 2)) (SApply (SName (named 15 2)) (both (SVar 3) (SVar 1))))
-    (clause (PVar 4) (erlang 16 (one (SAtom 3))) NoC)))
+    syntax.Case (syntax.Var 0) (clause TheNil (syntax.Var 1)
+    (clause (TheList (MorePatterns (AnyTerm 2) NoPatterns) (AnyTerm 3)) (syntax.ListOf 0 (one (syntax.Var 2)) (syntax.Apply (syntax.Name (named 15 2)) (both (syntax.Var 3) (syntax.Var 1))))
+    (clause (AnyTerm 4) (erlang 16 (one (syntax.Atom 3))) syntax.NoClauses)))
 
-abbrev pub modules : List SourceModule
+abbrev pub modules : List ModuleSyntax
 modules =
-    record { name = 7; functions = MoreF (named 8 0) [] main_source (MoreF (named 9 2) (0 ∷ 1 ∷ []) loop_source (MoreF (named 17 1) (0 ∷ []) other_source NoF)) }
-    ∷ record { name = 11; functions = MoreF (named 15 2) (0 ∷ 1 ∷ []) append_source NoF } ∷ []
+    record { name = 7; functions = MoreDefinitions (named 8 0) [] main_source (MoreDefinitions (named 9 2) (0 ∷ 1 ∷ []) loop_source (MoreDefinitions (named 17 1) (0 ∷ []) other_source NoDefinitions)) }
+    ∷ record { name = 11; functions = MoreDefinitions (named 15 2) (0 ∷ 1 ∷ []) append_source NoDefinitions } ∷ []
 
 abbrev alone : Expression → Expressions
 alone x = MoreExpressions x NoExpressions
@@ -120,4 +122,4 @@ trees =
     ∷ record { parameters = 0 ∷ []; body = other_tree } ∷ record { parameters = 0 ∷ 1 ∷ []; body = append_tree } ∷ []
 
 abbrev pub IsResolved : Type 0
-IsResolved = function_trees names (module_trees modules) ≡ trees
+IsResolved = function_trees names (0 ∷ 1 ∷ 2 ∷ 3 ∷ 4 ∷ 5 ∷ 6 ∷ 7 ∷ []) (module_trees modules) ≡ trees

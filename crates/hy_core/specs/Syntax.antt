@@ -9,6 +9,7 @@ use Rattle.hy_core.specs.declared.tree.Expr.TheOpen.{Expr-F, Clause-F, Function-
 use Rattle.hy_core.specs.declared.tree.Expr.TheVariants as e
 use Rattle.hy_core.specs.declared.tree.FunName.{FunName}
 use Rattle.hy_core.specs.declared.tree.Function.{Function}
+use Rattle.hy_core.specs.declared.tree.Module.{Module}
 use Rattle.hy_core.specs.declared.tree.Pattern as declared
 use Rattle.hy_core.specs.declared.tree.Pattern.TheFolds.{fold-Pattern}
 use Rattle.hy_core.specs.declared.tree.Pattern.TheOpen as pattern_layer
@@ -185,3 +186,15 @@ abbrev mutual
 abbrev pub count : Syntaxes → ℕ
 count NoSyntax = 0
 count (MoreSyntax s ss) = suc (count ss)
+
+-- a module by its syntax, without exports and tables
+pub record ModuleSyntax : Type 0 where
+  pub name : ℕ
+  pub functions : Definitions
+
+abbrev pub module_tree : ModuleSyntax → Module
+module_tree m = record { name = m.name; exports = []; functions = definition_trees m.functions; atoms = []; variables = [] }
+
+abbrev pub module_trees : List ModuleSyntax → List Module
+module_trees [] = []
+module_trees (m ∷ ms) = module_tree m ∷ module_trees ms

@@ -4,9 +4,9 @@ use Rattle.hy_core.specs.declared.place.Place.TheVariants.{Applied, Timeout}
 use Rattle.hy_core.specs.declared.tree.Expr.TheViews.{outs-List, outs-Let, outs-Do, outs-Case, outs-Letrec, outs-Apply, outs-Call, outs-Receive, outs-Try}
 use Rattle.hy_core.specs.Nodes.{AnExpr, node, nodes, clause_nodes, definition_nodes, pattern_nodes, at_place, binding, guarding, for_one, for_values, inside}
 use Rattle.hy_core.specs.SubPatterns.{clause_variables}
-use Rattle.core_tables.specs.Parts.{each_node, end_nodes, part_nodes}
+use Rattle.hy_core.specs.NodeParts.{each_node, end_nodes, part_nodes}
 use Rattle.core_walk.specs.Walk.{IsPassed, Reports, context_of, form_at, walked}
-use Rattle.core_tables.proofs.NodesLemmas.{nodes-parts, clause_nodes-parts, definition_nodes-parts, shaped, each_node-take, each_node-rest}
+use Rattle.hy_core.proofs.NodesLemmas.{nodes-parts, clause_nodes-parts, definition_nodes-parts, shaped, each_node-take, each_node-rest}
 use Rattle.core_walk.proofs.WalkLemmas.{body_context, guard_context, left, over_same, passed-then, reports-then, stops_in, then_part}
 use Rattle.core_walk.proofs.walk.+walk.Goals as goal
 

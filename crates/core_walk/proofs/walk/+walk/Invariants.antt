@@ -1,6 +1,6 @@
 use Rattle.std.proofs.Common.{take}
 use Rattle.hy_core.specs.Nodes.{nodes, clause_nodes, definition_nodes, for_one, inside}
-use Rattle.core_tables.specs.Parts.{each_node}
+use Rattle.hy_core.specs.NodeParts.{each_node}
 use Rattle.core_walk.specs.Walk.{IsPassed, context_of, form_at}
 use Rattle.core_walk.proofs.walk.+walk.Given as goal
 

@@ -12,7 +12,7 @@ use Rattle.hy_core.specs.declared.tree.Expr.TheOpen.{Expr-F, Clause-F, Function-
 use Rattle.hy_core.specs.declared.tree.Expr.TheVariants as e
 use Rattle.hy_core.specs.declared.tree.Expr.TheViews.{out-Expr, roll-Expr, roll-out-Expr}
 use Rattle.hy_core.specs.declared.tree.Function.{Function}
-use Rattle.core_tables.specs.Parts.{each_node, parts_layer, part_nodes}
+use Rattle.hy_core.specs.NodeParts.{each_node, parts_layer, part_nodes}
 
 -- parts as pairs with their nodes
 pub all_nodes-each : {A : Type 0} (f : A → Nodes) (xs : List A) (c : Context) → all_nodes (map (λ x. (x, f x)) xs) c ≡ each_node f xs c

@@ -6,7 +6,7 @@ use Rattle.hy_core.specs.declared.tree.Pattern.TheFolds.{para-roll-Pattern}
 use Rattle.hy_core.specs.declared.tree.Pattern.TheOpen as p
 use Rattle.hy_core.specs.declared.tree.Pattern.TheOpen.{Pattern-F}
 use Rattle.hy_core.specs.declared.tree.Pattern.TheViews.{out-Pattern, roll-Pattern, roll-out-Pattern}
-use Rattle.core_tables.specs.PatternParts.{end_patterns, within_layer}
+use Rattle.hy_core.specs.PatternParts.{end_patterns, within_layer}
 
 each_within-pairs : (qs : List Pattern) → each_within (map (λ q. (q, within q)) qs) ≡ patterns_in qs
 each_within-pairs [] = refl
