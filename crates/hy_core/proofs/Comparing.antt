@@ -185,3 +185,15 @@ module _ {V C W W' : Type 0} (waiting : Waiting V W) (waiting' : Waiting V W') w
         inputs = s.inputs;
         end = s.end;
       }
+
+-- behind a run over the same values
+
+and_then_some : {X : Type 0} (o : Option X) → option_and_then Some o ≡ o
+and_then_some None = refl
+and_then_some (Some x) = refl
+
+module _ {V V' C W W' W'' : Type 0} (value : V' → V) (waiting : Waiting V W) (waiting' : Waiting V W') (waiting'' : Waiting V' W'') where
+  pub run_behind : {B B' : Type 0} (shown : B' → Option B) (r : Run V C B W) (r' : Run V C B W') (r'' : Run V' C B' W'') → SameRun (λ v. v) waiting waiting' Some r r' → SameRun value waiting' waiting'' shown r' r'' → SameRun value waiting waiting'' shown r r''
+  run_behind shown r r' r'' a b =
+      subst (λ f. SameRun value waiting waiting'' f r r'') (fun_ext λ d. and_then_some (shown d))
+      (run_through (λ v. v) value waiting waiting' waiting'' Some shown r r' r'' a b)

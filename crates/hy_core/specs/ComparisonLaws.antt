@@ -30,6 +30,15 @@ Composes V V' V'' C B B' B'' W W' W'' =
     → SameRun (λ v. value (value' v)) waiting waiting'' (λ b. option_and_then shown (shown' b)) r
     r''
 
+-- so where the second is the same over the values of the first, it may be left out
+abbrev pub ComposesOverSame : (V V' C B B' W W' W'' : Type 0) → Type 0
+ComposesOverSame V V' C B B' W W' W'' =
+    (value : V' → V) (shown : B' → Option B)
+    (waiting : Waiting V W) (waiting' : Waiting V W') (waiting'' : Waiting V' W'')
+    (r : Run V C B W) (r' : Run V C B W') (r'' : Run V' C B' W'')
+    → SameRun (λ v. v) waiting waiting' Some r r' → SameRun value waiting' waiting'' shown r' r''
+    → SameRun value waiting waiting'' shown r r''
+
 module _ (V V' C B B' W W' : Type 0) where
   -- where one waits in a receive, so does the other, with the same timeout and accepting the same
   abbrev pub WaitsAlike : Type 0

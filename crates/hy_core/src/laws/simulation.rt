@@ -10,6 +10,7 @@ ghost use Rattle.hy_core.specs.Evaluation.{Callee};
 ghost use Rattle.hy_core.specs.ComparisonLaws.{
   ComparesWithItself,
   Composes,
+  ComposesOverSame,
   SameInResult,
   SameIsEqual,
   WaitsAlike,
@@ -54,6 +55,22 @@ pub fn comparison_composes<
     LastWait,
 >()
     ensures { Composes Value NextValue LastValue Class Act NextAct LastAct Wait NextWait LastWait }
+{}
+
+/// Of three runs, where the first and the second are the same over the same values, each act shown,
+/// and the second and the third are the same, so are the first and the third: a pass over programs
+/// may stand before one into other values.
+pub fn comparison_composes_over_the_same_values<
+    Value,
+    NextValue,
+    Class,
+    Act,
+    NextAct,
+    Wait,
+    NextWait,
+    LastWait,
+>()
+    ensures { ComposesOverSame Value NextValue Class Act NextAct Wait NextWait LastWait }
 {}
 
 /// Where a run waits in a `receive`, one that is the same does too, with the same timeout, and for
