@@ -11,8 +11,8 @@ use Rattle.hy_core.specs.Computation.{Input, Result, then_run, with_one}
 use Rattle.hy_core.specs.Evaluation.{Wait, answer_end, value_end}
 use Rattle.hy_core.specs.Event.{Event, Printed}
 use Rattle.hy_core.specs.Match.{Env, Bound, lookup}
-use Rattle.hybrid_run.specs.Meaning.{meaning, inside, first_argument}
-use Rattle.hy_core.specs.Resolve.{place_after}
+use Rattle.hy_core.specs.Supplied.{behind_event}
+use Rattle.hybrid_run.specs.Meaning.{meaning, supply_after}
 use Rattle.hy_core.specs.declared.bif.Bif.TheVariants.{Add}
 use Rattle.hy_core.specs.declared.class.Class.{Class}
 use Rattle.hy_core.specs.declared.tree.Expr.{Expr}
@@ -53,15 +53,15 @@ more_values : (before mid now vs us : List Value) → mid ≡ before ++ vs → n
 more_values before mid now vs us p q = q ∙ ap (λ (k : List Value). k ++ us) p ∙ append_assoc before vs us
 
 pub int_evaluates : (n : ℤ) (bindings : List Binding) (before : List Value) → Evaluates (e.Int n) bindings before before (Gives (Int n))
-int_evaluates n bindings before = ([], sym (append-nil before), record { means = λ program atoms names current pid locals place calls inputs built. meaning-Int program atoms names current pid locals place calls (env_of bindings) n inputs })
+int_evaluates n bindings before = ([], sym (append-nil before), record { means = λ program atoms names current pid locals supply calls inputs built. meaning-Int program atoms names current pid locals supply calls (env_of bindings) n inputs })
 
 pub variable_evaluates : (x : ℕ) (v : Value) (bindings : List Binding) (before : List Value) → lookup x (env_of bindings) ≡ Some (term_of v) → Evaluates (e.Var x) bindings before before (Gives v)
 variable_evaluates x v bindings before found = (
   [],
   sym (append-nil before),
   record {
-    means = λ program atoms names current pid locals place calls inputs built.
-        meaning-Var program atoms names current pid locals place calls (env_of bindings) x inputs ∙ ap (λ o. record { events = []; calls = calls; inputs = inputs; end = value_end o }) found;
+    means = λ program atoms names current pid locals supply calls inputs built.
+        meaning-Var program atoms names current pid locals supply calls (env_of bindings) x inputs ∙ ap (λ o. record { events = []; calls = calls; inputs = inputs; end = value_end o }) found;
   },
 )
 
@@ -70,12 +70,12 @@ do_gives x y bindings before mid now v ending (vs, p, first) (us, q, second) = (
   vs ++ us,
   more_values before mid now vs us p q,
   record {
-    means = λ program atoms names current pid locals place calls inputs built.
+    means = λ program atoms names current pid locals supply calls inputs built.
         let parts = do_parts x y built in
-        let rest = second.means program atoms names current pid locals (place_after names current locals (inside place) x) calls inputs parts.1 in
-        meaning-Do program atoms names current pid locals place calls (env_of bindings) x y inputs
-        ∙ ap (λ r. then_run r (with_one (λ t m jns. meaning program atoms names current pid locals (place_after names current locals (inside place) x) m (env_of bindings) y jns))) (first.means program atoms names current pid locals (inside place) calls inputs parts.0)
-        ∙ then_gives vs us v ending calls inputs (λ t m jns. meaning program atoms names current pid locals (place_after names current locals (inside place) x) m (env_of bindings) y jns) rest;
+        let rest = second.means program atoms names current pid locals (supply_after names current locals supply x) calls inputs parts.1 in
+        meaning-Do program atoms names current pid locals supply calls (env_of bindings) x y inputs
+        ∙ ap (λ r. then_run r (with_one (λ t m jns. meaning program atoms names current pid locals (supply_after names current locals supply x) m (env_of bindings) y jns))) (first.means program atoms names current pid locals supply calls inputs parts.0)
+        ∙ then_gives vs us v ending calls inputs (λ t m jns. meaning program atoms names current pid locals (supply_after names current locals supply x) m (env_of bindings) y jns) rest;
   },
 )
 
@@ -84,9 +84,9 @@ do_raises x y bindings before now r (vs, p, first) = (
   vs,
   p,
   record {
-    means = λ program atoms names current pid locals place calls inputs built.
-        meaning-Do program atoms names current pid locals place calls (env_of bindings) x y inputs
-        ∙ ap (λ r. then_run r (with_one (λ t m jns. meaning program atoms names current pid locals (place_after names current locals (inside place) x) m (env_of bindings) y jns))) (first.means program atoms names current pid locals (inside place) calls inputs (do_parts x y built).0);
+    means = λ program atoms names current pid locals supply calls inputs built.
+        meaning-Do program atoms names current pid locals supply calls (env_of bindings) x y inputs
+        ∙ ap (λ r. then_run r (with_one (λ t m jns. meaning program atoms names current pid locals (supply_after names current locals supply x) m (env_of bindings) y jns))) (first.means program atoms names current pid locals supply calls inputs (do_parts x y built).0);
   },
 )
 
@@ -95,16 +95,16 @@ let_gives_one var x y bindings before mid now v ending (vs, p, first) (us, q, se
   vs ++ us,
   more_values before mid now vs us p q,
   record {
-    means = λ program atoms names current pid locals place calls inputs built.
+    means = λ program atoms names current pid locals supply calls inputs built.
         let parts = let_parts (var ∷ []) x y built in
         let binding : Binding = record { var = var; value = v } in
         let this : parts.0 ≡ var = (let same : var ∷ [] ≡ parts.0 ∷ [] = parts.1 in cc) in
         let bound = subst (λ (k : List ℕ). IsBuilt names.atoms k y) (ap (λ (k : ℕ). k ∷ variables_of bindings) this ∙ sym (variables_push bindings binding)) parts.3 in
-        let behind = place_after names current locals (inside place) x in
+        let behind = supply_after names current locals supply x in
         let rest = second.means program atoms names current pid locals behind calls inputs bound in
         let env = env_push bindings binding in
-        meaning-Let program atoms names current pid locals place calls (env_of bindings) var x y inputs
-        ∙ ap (λ r. then_run r (with_one (λ t m jns. meaning program atoms names current pid locals behind m (Bound var t (env_of bindings)) y jns))) (first.means program atoms names current pid locals (inside place) calls inputs parts.2)
+        meaning-Let program atoms names current pid locals supply calls (env_of bindings) var x y inputs
+        ∙ ap (λ r. then_run r (with_one (λ t m jns. meaning program atoms names current pid locals behind m (Bound var t (env_of bindings)) y jns))) (first.means program atoms names current pid locals supply calls inputs parts.2)
         ∙ then_gives vs us v ending calls inputs (λ t m jns. meaning program atoms names current pid locals behind m (Bound var t (env_of bindings)) y jns) (ap (λ (k : Env). meaning program atoms names current pid locals behind calls k y inputs) (sym env) ∙ rest);
   },
 )
@@ -119,9 +119,9 @@ let_raises_one var x y bindings before now r (vs, p, first) = (
   vs,
   p,
   record {
-    means = λ program atoms names current pid locals place calls inputs built.
-        meaning-Let program atoms names current pid locals place calls (env_of bindings) var x y inputs
-        ∙ ap (λ r. then_run r (with_one (λ t m jns. meaning program atoms names current pid locals (place_after names current locals (inside place) x) m (Bound var t (env_of bindings)) y jns))) (first.means program atoms names current pid locals (inside place) calls inputs (let_parts (var ∷ []) x y built).2);
+    means = λ program atoms names current pid locals supply calls inputs built.
+        meaning-Let program atoms names current pid locals supply calls (env_of bindings) var x y inputs
+        ∙ ap (λ r. then_run r (with_one (λ t m jns. meaning program atoms names current pid locals (supply_after names current locals supply x) m (Bound var t (env_of bindings)) y jns))) (first.means program atoms names current pid locals supply calls inputs (let_parts (var ∷ []) x y built).2);
   },
 )
 
@@ -132,7 +132,7 @@ let_raises [] x y bindings before now r (vs, p, first) = (
   vs,
   p,
   record {
-    means = λ program atoms names current pid locals place calls inputs built.
+    means = λ program atoms names current pid locals supply calls inputs built.
         let parts = let_parts [] x y built in
         absurd (let bad : [] ≡ parts.0 ∷ [] = parts.1 in cc);
   },
@@ -141,7 +141,7 @@ let_raises (var ∷ w ∷ xs) x y bindings before now r (vs, p, first) = (
   vs,
   p,
   record {
-    means = λ program atoms names current pid locals place calls inputs built.
+    means = λ program atoms names current pid locals supply calls inputs built.
         let parts = let_parts (var ∷ w ∷ xs) x y built in
         absurd (let bad : var ∷ w ∷ xs ≡ parts.0 ∷ [] = parts.1 in cc);
   },
@@ -178,10 +178,10 @@ display_gives x bindings before mid v (vs, p, first) = λ m k. (
   vs ++ v ∷ [],
   ap (λ (u : List Value). u ++ v ∷ []) p ∙ append_assoc before vs (v ∷ []),
   record {
-    means = λ program atoms names current pid locals place calls inputs built.
+    means = λ program atoms names current pid locals supply calls inputs built.
         let parts = one_argument names.atoms (variables_of bindings) m k x built in
-        meaning-display program atoms names current pid locals place calls (env_of bindings) m k x inputs (text_at names.atoms m the_erlang parts.0) (text_at names.atoms k the_display parts.1)
-        ∙ ap (λ r. then_run r (with_one (λ t l jns. record { events = Printed t ∷ []; calls = l; inputs = jns; end = outcome_of (Gives True) }))) (first.means program atoms names current pid locals (first_argument place) calls inputs parts.2)
+        meaning-display program atoms names current pid locals supply calls (env_of bindings) m k x inputs (text_at names.atoms m the_erlang parts.0) (text_at names.atoms k the_display parts.1)
+        ∙ ap (λ r. then_run r (with_one (λ t l jns. record { events = Printed t ∷ []; calls = l; inputs = jns; end = outcome_of (Gives True) }))) (first.means program atoms names current pid locals (behind_event supply) calls inputs parts.2)
         ∙ then_gives vs (v ∷ []) v (Gives True) calls inputs (λ t l jns. record { events = Printed t ∷ []; calls = l; inputs = jns; end = outcome_of (Gives True) }) refl;
   },
 )
@@ -191,10 +191,10 @@ display_raises x bindings before now r (vs, p, first) = λ m k. (
   vs,
   p,
   record {
-    means = λ program atoms names current pid locals place calls inputs built.
+    means = λ program atoms names current pid locals supply calls inputs built.
         let parts = one_argument names.atoms (variables_of bindings) m k x built in
-        meaning-display program atoms names current pid locals place calls (env_of bindings) m k x inputs (text_at names.atoms m the_erlang parts.0) (text_at names.atoms k the_display parts.1)
-        ∙ ap (λ r. then_run r (with_one (λ t l jns. record { events = Printed t ∷ []; calls = l; inputs = jns; end = outcome_of (Gives True) }))) (first.means program atoms names current pid locals (first_argument place) calls inputs parts.2);
+        meaning-display program atoms names current pid locals supply calls (env_of bindings) m k x inputs (text_at names.atoms m the_erlang parts.0) (text_at names.atoms k the_display parts.1)
+        ∙ ap (λ r. then_run r (with_one (λ t l jns. record { events = Printed t ∷ []; calls = l; inputs = jns; end = outcome_of (Gives True) }))) (first.means program atoms names current pid locals (behind_event supply) calls inputs parts.2);
   },
 )
 
@@ -205,17 +205,17 @@ sum_gives x y bindings before mid now v u ending (vs, p, first) (us, q, second) 
   vs ++ us,
   more_values before mid now vs us p q,
   record {
-    means = λ program atoms names current pid locals place calls inputs built.
+    means = λ program atoms names current pid locals supply calls inputs built.
         let parts = two_arguments names.atoms (variables_of bindings) m k x y built in
-        let behind = place_after names current locals (first_argument place) x in
+        let behind = supply_after names current locals supply x in
         let whole : Term → Term → ℕ → List (Input Term) → Coming = λ t u l kns. record { events = []; calls = l; inputs = kns; end = answer_end (answer atoms pid Add (t ∷ u ∷ [])) } in
         let after_first : Term → ℕ → List (Input Term) → Coming = λ t m jns. then_run (meaning program atoms names current pid locals behind m (env_of bindings) y jns) (with_one (whole t)) in
         let last : whole (term_of v) (term_of u) calls inputs ≡ came [] ending calls inputs = ap (λ o. record { events = []; calls = calls; inputs = inputs; end = o }) (sym (added atoms pid)) in
         let right : after_first (term_of v) calls inputs ≡ came us ending calls inputs
         = ap (λ r. then_run r (with_one (whole (term_of v)))) (second.means program atoms names current pid locals behind calls inputs parts.3)
         ∙ then_gives us [] u ending calls inputs (whole (term_of v)) last ∙ ap (λ (k : List Value). came k ending calls inputs) (append-nil us) in
-        meaning-plus program atoms names current pid locals place calls (env_of bindings) m k x y inputs (text_at names.atoms m the_erlang parts.0) (text_at names.atoms k the_plus parts.1)
-        ∙ ap (λ r. then_run r (with_one after_first)) (first.means program atoms names current pid locals (first_argument place) calls inputs parts.2)
+        meaning-plus program atoms names current pid locals supply calls (env_of bindings) m k x y inputs (text_at names.atoms m the_erlang parts.0) (text_at names.atoms k the_plus parts.1)
+        ∙ ap (λ r. then_run r (with_one after_first)) (first.means program atoms names current pid locals supply calls inputs parts.2)
         ∙ then_gives vs us v ending calls inputs after_first right;
   },
 )
@@ -226,15 +226,15 @@ sum_right_raises x y bindings before mid now v r (vs, p, first) (us, q, second) 
   vs ++ us,
   more_values before mid now vs us p q,
   record {
-    means = λ program atoms names current pid locals place calls inputs built.
+    means = λ program atoms names current pid locals supply calls inputs built.
         let parts = two_arguments names.atoms (variables_of bindings) m k x y built in
-        let behind = place_after names current locals (first_argument place) x in
+        let behind = supply_after names current locals supply x in
         let whole : Term → Term → ℕ → List (Input Term) → Coming = λ t u l kns. record { events = []; calls = l; inputs = kns; end = answer_end (answer atoms pid Add (t ∷ u ∷ [])) } in
         let after_first : Term → ℕ → List (Input Term) → Coming = λ t m jns. then_run (meaning program atoms names current pid locals behind m (env_of bindings) y jns) (with_one (whole t)) in
         let right : after_first (term_of v) calls inputs ≡ came us (Raises r) calls inputs
         = ap (λ r. then_run r (with_one (whole (term_of v)))) (second.means program atoms names current pid locals behind calls inputs parts.3) in
-        meaning-plus program atoms names current pid locals place calls (env_of bindings) m k x y inputs (text_at names.atoms m the_erlang parts.0) (text_at names.atoms k the_plus parts.1)
-        ∙ ap (λ r. then_run r (with_one after_first)) (first.means program atoms names current pid locals (first_argument place) calls inputs parts.2)
+        meaning-plus program atoms names current pid locals supply calls (env_of bindings) m k x y inputs (text_at names.atoms m the_erlang parts.0) (text_at names.atoms k the_plus parts.1)
+        ∙ ap (λ r. then_run r (with_one after_first)) (first.means program atoms names current pid locals supply calls inputs parts.2)
         ∙ then_gives vs us v (Raises r) calls inputs after_first right;
   },
 )
@@ -245,13 +245,13 @@ sum_left_raises x y bindings before now r (vs, p, first) = λ m k. (
   vs,
   p,
   record {
-    means = λ program atoms names current pid locals place calls inputs built.
+    means = λ program atoms names current pid locals supply calls inputs built.
         let parts = two_arguments names.atoms (variables_of bindings) m k x y built in
-        let behind = place_after names current locals (first_argument place) x in
+        let behind = supply_after names current locals supply x in
         let whole : Term → Term → ℕ → List (Input Term) → Coming = λ t u l kns. record { events = []; calls = l; inputs = kns; end = answer_end (answer atoms pid Add (t ∷ u ∷ [])) } in
         let after_first : Term → ℕ → List (Input Term) → Coming = λ t m jns. then_run (meaning program atoms names current pid locals behind m (env_of bindings) y jns) (with_one (whole t)) in
-        meaning-plus program atoms names current pid locals place calls (env_of bindings) m k x y inputs (text_at names.atoms m the_erlang parts.0) (text_at names.atoms k the_plus parts.1)
-        ∙ ap (λ r. then_run r (with_one after_first)) (first.means program atoms names current pid locals (first_argument place) calls inputs parts.2);
+        meaning-plus program atoms names current pid locals supply calls (env_of bindings) m k x y inputs (text_at names.atoms m the_erlang parts.0) (text_at names.atoms k the_plus parts.1)
+        ∙ ap (λ r. then_run r (with_one after_first)) (first.means program atoms names current pid locals supply calls inputs parts.2);
   },
 )
 

@@ -18,7 +18,7 @@ use Rattle.hy_core.specs.declared.tree.Function.{Function}
 use Rattle.hy_core.specs.declared.tree.Module.{Module}
 use Rattle.hybrid_run.specs.declared.evaluate.Binding.{Binding}
 use Rattle.hybrid_run.proofs.AloneLemmas.{events_from, prints_and_ends, prints_and_raises}
-use Rattle.hybrid_run.proofs.MainLemmas.{main_does}
+use Rattle.hybrid_run.proofs.MainLemmas.{main_supply, main_does}
 use Rattle.hybrid_run.specs.Arithmetic.{term_of, reason_of, outcome_of, displays, value_text, end_of, output_of, printed_lines, EvaluatesTo, Evaluates}
 use Rattle.hybrid_run.specs.Headline.{names_of, program_of, calls_limit, IsModuleRun, HasRun}
 use Rattle.hybrid_run.specs.declared.value.Value.{Value}
@@ -48,7 +48,7 @@ module _ (name : ℕ) (exports : List FunName) (main : ℕ) (x : Expr) (s : Tabl
   comes : (values : List Value) (ending : Ending) → EvaluatesTo x [] values ending → IsBuilt s.atoms [] x → does ≡ record { events = displays values; calls = calls_limit; inputs = []; end = outcome_of ending }
   comes values ending to d =
       main_does own_atoms calls_limit (names_of whole) name exports main x s
-      ∙ to.means (program_of whole) own_atoms (names_of whole) name 0 [] (record { node = 0; site = 0 }) calls_limit [] d
+      ∙ to.means (program_of whole) own_atoms (names_of whole) name 0 [] (main_supply (names_of whole) main x) calls_limit [] d
 
   run_with : (values : List Value) (ending : Ending) → EvaluatesTo x [] values ending → IsBuilt s.atoms [] x → HasRun whole values ending
   run_with values (Gives v) to d =

@@ -12,8 +12,9 @@ use Rattle.hy_core.specs.Event.{Event, Printed}
 use Rattle.hy_core.specs.Match.{Env, Empty, Bound}
 use Rattle.hybrid_run.specs.Meaning.{meaning}
 use Rattle.hy_core.specs.Output.{outcome_line}
-use Rattle.hy_core.specs.Resolve.{Names, Place}
+use Rattle.hy_core.specs.Resolve.{Names}
 use Rattle.hy_core.specs.Resolved.{FunctionTree}
+use Rattle.hy_core.specs.Supplied.{Supply}
 use Rattle.hy_core.specs.declared.class.Class.{Class}
 use Rattle.hy_core.specs.declared.class.Class.TheVariants.{Error}
 use Rattle.hy_core.specs.declared.end.End.{End}
@@ -65,8 +66,8 @@ displays values = map (λ v. Printed (term_of v)) values
 
 -- under these bindings the expression displays these values and ends so, wherever it stands
 pub record EvaluatesTo (e : Expr) (bindings : List Binding) (values : List Value) (ending : Ending) : Type 0 where
-  pub means : (program : List FunctionTree) (atoms : List (List ℕ)) (names : Names) (current pid : ℕ) (locals : List FunName) (place : Place) (calls : ℕ) (inputs : List (Input Term)) → IsBuilt names.atoms (variables_of bindings) e
-      → meaning program atoms names current pid locals place calls (env_of bindings) e inputs ≡ record { events = displays values; calls = calls; inputs = inputs; end = outcome_of ending }
+  pub means : (program : List FunctionTree) (atoms : List (List ℕ)) (names : Names) (current pid : ℕ) (locals : List FunName) (supply : Supply) (calls : ℕ) (inputs : List (Input Term)) → IsBuilt names.atoms (variables_of bindings) e
+      → meaning program atoms names current pid locals supply calls (env_of bindings) e inputs ≡ record { events = displays values; calls = calls; inputs = inputs; end = outcome_of ending }
 
 -- the values printed behind those before are what the expression displays, and it ends so
 abbrev pub Evaluates : Expr → List Binding → List Value → List Value → Ending → Type 0

@@ -6,7 +6,8 @@ use Rattle.hy_core.specs.FullRun.{NeverStopped, IsFullRun}
 use Rattle.hy_core.specs.Canonical.{canonical_text, one_after_another}
 use Rattle.hy_core.specs.Faults.{IsAccepted, IsLeastFault}
 use Rattle.hy_core.specs.PreludeModules.{prelude_modules}
-use Rattle.hy_core.specs.Resolve.{Names, function_trees}
+use Rattle.hy_core.specs.ProgramTrees.{function_trees}
+use Rattle.hy_core.specs.Resolve.{Names}
 use Rattle.hy_core.specs.Resolved.{FunctionTree}
 use Rattle.hy_core.specs.declared.end.End.{End}
 use Rattle.hy_core.specs.declared.end.End.TheVariants.{Ended, Raised, Waits, Stopped}
@@ -32,7 +33,7 @@ abbrev pub names_of : Module → Names
 names_of z = record { atoms = z.atoms; functions = [] }
 
 abbrev pub program_of : Module → List FunctionTree
-program_of z = function_trees (names_of z) (z ∷ [])
+program_of z = function_trees (names_of z) [] (z ∷ [])
 
 -- the calls of a process
 abbrev pub calls_limit : ℕ
