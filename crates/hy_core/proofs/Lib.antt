@@ -1,9 +1,15 @@
+pub mod Behaving
+pub mod Comparing
 pub mod EventNodes
 pub mod Forms
 pub mod NodesLemmas
 pub mod PatternsLemmas
 pub mod Rules
 pub mod Runs
+pub mod SameEnds
+pub mod SamePrograms
+pub mod Simulating
+pub mod SimulatingHere
 pub mod SyntaxLemmas
 pub mod Timing
 pub mod WorkedRuns

@@ -1,8 +1,11 @@
 pub mod Annotations
+pub mod BehaviourLaws
 pub mod BuiltIn
 pub mod BuiltInTable
 pub mod Bytes
 pub mod Canonical
+pub mod Comparison
+pub mod ComparisonLaws
 pub mod Computation
 pub mod Counting
 pub mod Evaluated
@@ -32,6 +35,10 @@ pub mod Refusals
 pub mod Resolve
 pub mod Resolved
 pub mod ResolvedExample
+pub mod SameBehaviour
+pub mod SameProgram
+pub mod Simulation
+pub mod SimulationLaws
 pub mod Sites
 pub mod SubPatterns
 pub mod Supplied

@@ -6,5 +6,7 @@ pub mod built_ins;
 pub mod evaluation;
 /// Small programs, and what they do.
 pub mod runs;
+/// When runs are the same, and how it is shown.
+pub mod simulation;
 /// Trees as definitions compute with them.
 pub mod trees;
