@@ -1,5 +1,6 @@
 pub mod Accepting
 pub mod Arities
+pub mod Behaving
 pub mod Comparing
 pub mod EventNodes
 pub mod Forms
@@ -11,8 +12,13 @@ pub mod PatternsLemmas
 pub mod Ranges
 pub mod Rules
 pub mod Runs
+pub mod SameEnds
+pub mod SamePrograms
+pub mod Simulating
+pub mod SimulatingHere
 pub mod SmallRuns
 pub mod SyntaxLemmas
+pub mod TermComparisons
 pub mod Timing
 pub mod WorkedRuns
 pub mod Written

@@ -12,5 +12,7 @@ pub mod matching;
 pub mod programs;
 /// Small programs, and what they do.
 pub mod runs;
+/// When runs are the same, and how it is shown.
+pub mod simulation;
 /// Trees as definitions compute with them.
 pub mod trees;

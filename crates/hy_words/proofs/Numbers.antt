@@ -4,21 +4,9 @@ use Rattle.std.specs.Prelude.{pos, negsuc, if◌then◌else◌}
 use Rattle.std.proofs.lemmas.Int.{to_z-of_z}
 use native.Mathlib.Decide.{dec_lt}
 use mathlib.Core.Logic.{dite}
+use Rattle.hy_terms.proofs.RangeLemmas.{number_below, number_above, below_number, above_number}
 use Rattle.hy_terms.specs.Range.{IsNumber}
 use Rattle.hy_words.specs.Words.{payload_of, payload_of_number, number_of, number_word}
-
--- the range by the two forms of a number
-pub number_below : (k : ℕ) → IsNumber (pos k) → k < 2 ^ 59
-number_below k h = let le : k ≤ 576460752303423487 = leb→le k 576460752303423487 h.1.le in omega arith
-
-pub number_above : (k : ℕ) → IsNumber (negsuc k) → k < 2 ^ 59
-number_above k h = let le : k ≤ 576460752303423487 = leb→le k 576460752303423487 h.0.le in omega arith
-
-pub below_number : (k : ℕ) → k < 2 ^ 59 → IsNumber (pos k)
-below_number k h = (record { le = tt }, record { le = le→leb k 576460752303423487 (omega arith) })
-
-pub above_number : (k : ℕ) → k < 2 ^ 59 → IsNumber (negsuc k)
-above_number k h = (record { le = le→leb k 576460752303423487 (omega arith) }, record { le = tt })
 
 -- the number of a payload is in range, and has that payload
 pub number_back : (p : ℕ) → p < 2 ^ 60 → IsNumber (number_of p) × (payload_of_number (number_of p) ≡ p)

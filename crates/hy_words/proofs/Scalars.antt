@@ -11,7 +11,8 @@ use Rattle.hy_words.specs.declared.kind.Entry.{Entry}
 use Rattle.hy_words.specs.declared.kind.Entry.TheVariants.{Send, Spawn, Print}
 use Rattle.hy_words.specs.Words.{word_of, tag_of, payload_of, private_tag, number_tag, atom_tag, pid_tag, tuple_tag, cons_tag, tag_of_entry, payload_of_number, number_of, number_word, IsScalar, IsValue, IsTermHeader, IsEntryHeader}
 use Rattle.hy_words.specs.Stands.{Stands, of_int, of_atom, of_pid, of_nil, of_cons, of_tuple}
-use Rattle.hy_words.proofs.Numbers.{number_back, number_below}
+use Rattle.hy_terms.proofs.RangeLemmas.{number_below}
+use Rattle.hy_words.proofs.Numbers.{number_back}
 
 -- a scalar stands for a term
 pub scalar_stands : (heap area : List ℕ) (w : ℕ) → IsScalar w → (t : Labelled) × Stands heap area t w

@@ -1,7 +1,7 @@
 ghost use Rattle.std.specs.Prelude.{ℕ, List};
 ghost use Rattle.hy_terms.specs.Term.{Term};
 ghost use Rattle.hy_core.specs.ArgumentLaws.{AnswersItsArguments};
-ghost use Rattle.hy_core.specs.ComparisonLaws.{ComparesByOrder};
+ghost use Rattle.hy_core.specs.TermComparisonLaws.{ComparesByOrder};
 ghost use Rattle.hy_core.specs.BuiltInTable.{
   NumbersAreComputed,
   TruthsAreComputed,
