@@ -44,14 +44,10 @@ pub fn comparisons_go_by_order()
     ensures { (atoms : List (List ℕ)) (pid : ℕ) (t u : Term) → ComparesByOrder atoms pid t u }
 {}
 
-/// Where the arguments of a built-in keep to the range of numbers, so does its value. Of `length` and
-/// `tuple_size` this is said where the length or the size is in the range.
-pub fn built_ins_keep_to_range()
-    ensures { (atoms : List (List ℕ)) (pid : ℕ) → KeepToRange atoms pid }
-{}
-
-/// A call that is resolved as a built-in has an answer. With another number of arguments than its name
-/// is looked up with, a built-in has none.
-pub fn built_ins_answer_their_arguments()
-    ensures { (atoms : List (List ℕ)) (pid : ℕ) → AnswersItsArguments atoms pid }
+/// A call that is resolved as a built-in has an answer; with another number of arguments than its name
+/// is looked up with, a built-in has none. Where the arguments keep to the range of numbers, so does the
+/// value; of `length` and `tuple_size` this is said where the length or the size is in the range.
+pub fn built_ins_keep_to_arity_and_range()
+    ensures arity { (atoms : List (List ℕ)) (pid : ℕ) → AnswersItsArguments atoms pid }
+    ensures range { (atoms : List (List ℕ)) (pid : ℕ) → KeepToRange atoms pid }
 {}

@@ -10,13 +10,10 @@ pub fn full_runs_are_last()
 {}
 
 /// No run has an event at a later place than the next, takes or lapses while an event is left, tells
-/// another number of events at a lapse, takes a message twice, or lapses without a timeout.
-pub fn more_steps_are_no_run()
-    ensures { AreNotAllowed }
-{}
-
-/// No run is full where an event is left, a text is another, a timeout is 0, a message is accepted, or a
-/// process is left out.
-pub fn some_runs_are_not_full()
-    ensures { AreNotFull }
+/// another number of events at a lapse, takes a message twice, or lapses without a timeout. None is full
+/// where an event is left, a text is another, a timeout is 0, a message is accepted, or a process is left
+/// out.
+pub fn some_are_no_full_runs()
+    ensures steps { AreNotAllowed }
+    ensures ends { AreNotFull }
 {}

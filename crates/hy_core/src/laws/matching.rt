@@ -10,13 +10,10 @@ pub fn matching_fills_patterns_in()
     ensures { (ps : Patterns) (ts : List Term) (env : Env) → MatchingFillsIn ps ts env }
 {}
 
-/// A guard holds exactly where it evaluates to `'true'`, without a call, an event or an input.
-pub fn guards_give_true()
-    ensures { (atoms : List (List ℕ)) (pid : ℕ) → GuardHolds atoms pid }
-{}
-
-/// A `receive` accepts a message exactly where the patterns of some clause match it and the guard of
-/// that clause gives `'true'`.
-pub fn messages_are_accepted_by_a_clause()
-    ensures { (atoms : List (List ℕ)) (pid : ℕ) → AcceptsByClause atoms pid }
+/// A guard holds exactly where it evaluates to `'true'`, without a call, an event or an input. A
+/// `receive` accepts a message exactly where the patterns of some clause match it and the guard of that
+/// clause gives `'true'`.
+pub fn clauses_hold_by_guards()
+    ensures guards { (atoms : List (List ℕ)) (pid : ℕ) → GuardHolds atoms pid }
+    ensures messages { (atoms : List (List ℕ)) (pid : ℕ) → AcceptsByClause atoms pid }
 {}
