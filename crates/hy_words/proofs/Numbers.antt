@@ -1,5 +1,5 @@
 -- A number in range and its payload, there and back.
-use Rattle.std.proofs.Common.{◌≡◌, ℕ, ℤ, ◌-◌, ◌^◌, ◌<◌, ◌≤◌, refl, ap, sym, ◌∙◌, subst, arith, Bool, lt-ltb, le-ltb, le→leb, leb→le, w64, to_z, of_z, rules}
+use Rattle.std.proofs.Common.{◌≡◌, ℕ, ℤ, ◌-◌, ◌^◌, ◌<◌, refl, ap, sym, ◌∙◌, subst, arith, Bool, lt-ltb, le-ltb, w64, to_z, of_z, rules}
 use Rattle.std.specs.Prelude.{pos, negsuc, if◌then◌else◌}
 use Rattle.std.proofs.lemmas.Int.{to_z-of_z}
 use native.Mathlib.Decide.{dec_lt}
