@@ -9,12 +9,12 @@ use Rattle.hy_core.specs.declared.class.Class.{Class}
 use Rattle.hy_core.specs.declared.step.Item.{Item}
 use Rattle.hy_core.specs.declared.step.Item.TheVariants as item
 use Rattle.hy_core.specs.declared.step.Step.{Step}
-use Rattle.hy_core.specs.RunComparison.{map_input, map_event, SameEnd, SameRun, SameResult, events_only}
+use Rattle.hy_core.specs.Comparison.{map_input, map_event, SameEnd, SameRun, SameResult, events_only}
 use Rattle.hy_core.specs.Computation.{Input, Got, Lapsed, Born, Outcome, Values, Raised, Needs, NeedsPid, Spent, Wrong, Run, dones, result_of}
 use Rattle.hy_core.specs.Event.{Event, Sent, Spawned, Printed}
 use Rattle.hy_core.specs.Machine.{Message, Process, Configuration, Behaviour, fresh, process_of, with_process, with_input, with_event_done, with_message, with_taken, without, first_accepted, if_at, activity, carried_out, event_step, take_of, lapse_of, take_step, lapse_step, is_done, process_step, step_of, after_step, after_steps, start}
 use Rattle.hy_core.specs.Resolved.{Timeout, AtOnce, Never}
-use Rattle.hy_core.proofs.ComparingRuns.{same_events}
+use Rattle.hy_core.proofs.Comparing.{same_events}
 use Rattle.hy_core.specs.SameBehaviour.{map_message, map_process, map_configuration, waiting_of, SpawnsOf, SameBehaviour}
 
 all_shown : {X Y : Type 0} (f : X → Y) (xs : List X) → filter_map (λ x. Some (f x)) xs ≡ map f xs

@@ -1,8 +1,8 @@
 -- Which nodes of a function are events, as its syntax tells.
-use Rattle.std.proofs.Common.{◌≡◌, ℕ, Bool, true, false, if◌then◌else◌, List, [], ◌∷◌, ◌++◌, map, refl, sym, ap, ◌∙◌}
+use Rattle.std.proofs.Common.{◌≡◌, ℕ, Bool, true, false, if◌then◌else◌, List, [], ◌∷◌, ◌++◌, map, refl, ap, ◌∙◌}
 use Rattle.std.proofs.lemmas.List.{map-append}
-use Rattle.hy_core.specs.Nodes.{is_nil_layer as layer_is_nil, Context, Node, Nodes, node, AnExpr, APattern, nodes, nodes_of, clause_nodes, definition_nodes, pattern_nodes}
-use Rattle.hy_core.specs.NodeParts.{each_node, end_nodes, parts_layer, part_nodes}
+use Rattle.hy_core.specs.Nodes.{is_nil_layer as layer_is_nil, Context, Node, node, AnExpr, APattern, nodes, nodes_of, clause_nodes, definition_nodes, pattern_nodes}
+use Rattle.hy_core.specs.NodeParts.{each_node, end_nodes, parts_layer}
 use Rattle.hy_core.specs.ProgramTrees.{is_event, is_event_piece, are_events, true_places}
 use Rattle.hy_core.specs.Resolved.{Pattern, AnyTerm, TheInt, TheAtom, TheNil, TheText, TheTuple, TheList, Alias, Patterns, NoPatterns, MorePatterns}
 use Rattle.hy_core.specs.PatternParts.{end_patterns, within_layer}
@@ -11,7 +11,6 @@ use Rattle.hy_core.specs.Syntax as s
 use Rattle.hy_core.specs.Syntax.{Syntax, Syntaxes, NoSyntax, MoreSyntax, Clauses, NoClauses, MoreClauses, Definitions, NoDefinitions, MoreDefinitions, syntax_of, pattern_tree, pattern_trees, tree, trees, clause_trees, definition_trees}
 use Rattle.hy_core.specs.declared.tree.Clause.{Clause}
 use Rattle.hy_core.specs.declared.tree.Expr.{Expr}
-use Rattle.hy_core.specs.declared.tree.Expr.TheOpen as layer
 use Rattle.hy_core.specs.declared.tree.Expr.TheOpen.{Expr-F}
 use Rattle.hy_core.specs.declared.tree.Expr.TheViews as views
 use Rattle.hy_core.specs.declared.tree.Expr.TheViews.{out-Expr}

@@ -12,11 +12,12 @@ use Rattle.hy_core.specs.declared.step.Step.{Step}
 use Rattle.hy_core.specs.Computation as outcome
 use Rattle.hy_core.specs.Computation.{Outcome, Values, Needs}
 use Rattle.hy_core.specs.Event.{Event}
-use Rattle.hy_core.specs.FullRun.{behaviour_of}
+use Rattle.hy_core.specs.FullRun.{behaviour_of, NeverStopped, IsFullRun, trees_of}
+use Rattle.hy_core.specs.Tables.{program_atoms}
 use Rattle.hy_core.specs.Machine.{Behaviour, Process, Configuration, after_step, after_steps, step_of, process_step, process_of, event_step, take_step, take_of, lapse_step, lapse_of, is_done, activity, first_accepted, start, IsAt, AreAt}
 use Rattle.hy_core.specs.Output.{run_output}
 use Rattle.hy_core.specs.Resolved.{FunctionTree}
-use Rattle.hy_core.specs.RunLaws.{FullRunsAreLast}
+use Rattle.hy_core.specs.RunLaws.{FullRunsAreLast, ProgramsEndOnce}
 
 some_same : {A : Type 0} (x y : A) → Some x ≡ Some y → x ≡ y
 some_same x y h = cc
@@ -132,3 +133,9 @@ full_runs_are_last program atoms calls main = record {
       let same : ends ≡ others = one_end_each b k.full.last.processes ends others (subst (λ c. AllAt b c.processes ends) last h.full.at_ends) k.full.at_ends in
       (same, sym h.writes ∙ (λ i. run_output (last i) (same i)) ∙ k.writes);
 }
+
+pub programs_end_once : ProgramsEndOnce
+programs_end_once program limit steps ends others output other h k =
+    let same : h.main ≡ k.main = some_same h.main k.main (sym h.is_main ∙ k.is_main) in
+    (full_runs_are_last (trees_of program) (program_atoms program) limit h.main).one_end steps ends others output other h.run
+    (subst (λ (n : ℕ). IsFullRun (trees_of program) (program_atoms program) limit NeverStopped n steps others other) (sym same) k.run)

@@ -7,7 +7,7 @@ use Rattle.hy_core.specs.declared.end.Cause.{Cause}
 use Rattle.hy_core.specs.declared.end.End.{End}
 use Rattle.hy_core.specs.declared.end.End.TheVariants as end
 use Rattle.hy_core.specs.declared.step.Step.{Step}
-use Rattle.hy_core.specs.RunComparison.{map_input, map_event, Waiting, SameWait, SameEnd, SameResult}
+use Rattle.hy_core.specs.Comparison.{map_input, map_event, Waiting, SameWait, SameEnd, SameResult}
 use Rattle.hy_core.specs.Computation.{Outcome, Values, Raised, Needs}
 use Rattle.hy_core.specs.Machine.{Process, Configuration, Behaviour, first_accepted, activity, after_steps, start, IsThrough, IsAt, AreAt}
 use Rattle.hy_core.specs.Output.{run_output, outcome_lines}

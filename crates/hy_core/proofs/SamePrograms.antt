@@ -6,7 +6,7 @@ use Rattle.hy_terms.specs.Term.{Term}
 use Rattle.hy_core.specs.declared.end.Cause.{Cause}
 use Rattle.hy_core.specs.declared.end.End.{End}
 use Rattle.hy_core.specs.declared.step.Step.{Step}
-use Rattle.hy_core.specs.RunComparison.{map_input, map_event, SameResult}
+use Rattle.hy_core.specs.Comparison.{map_input, map_event, SameResult}
 use Rattle.hy_core.specs.Computation.{Input, result_of}
 use Rattle.hy_core.specs.Evaluation.{Evaluated, Callee, Top, body_of, run_of}
 use Rattle.hy_core.specs.FullRun.{behaviour_of, IsFullRun}
@@ -14,7 +14,7 @@ use Rattle.hy_core.specs.Machine.{Process}
 use Rattle.hy_core.specs.Resolved.{FunctionTree}
 use Rattle.hy_core.specs.SameBehaviour.{SpawnsOf, map_process, SameBehaviour, HasFullRun}
 use Rattle.hy_core.specs.SameProgram.{SameProgram, waits}
-use Rattle.hy_core.proofs.ComparingRuns.{map_inputs-id, same_events_here}
+use Rattle.hy_core.proofs.Comparing.{map_inputs-id, same_events_here}
 use Rattle.hy_core.specs.Simulation.{Simulates}
 use Rattle.hy_core.proofs.SimulatingHere.{alike_run, alike_does}
 use Rattle.hy_core.proofs.SameEnds.{full_forth, full_back}

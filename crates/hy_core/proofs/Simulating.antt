@@ -4,7 +4,7 @@ use Rattle.std.proofs.lemmas.List.{map-id}
 use Rattle.std.proofs.lemmas.List.Elements.{All-nil, All-cons}
 use Rattle.std.specs.List.{filter_map, cons_option, All}
 use Rattle.std.specs.Option.{option_map}
-use Rattle.hy_core.specs.RunComparison.{map_input, Waiting, shown_moment, SameRun}
+use Rattle.hy_core.specs.Comparison.{map_input, Waiting, shown_moment, SameRun}
 use Rattle.hy_core.specs.Computation.{Computation, Give, Raise, Fault, Act, Call, Birth, Receive, attempt, bind}
 use Rattle.hy_core.specs.Computation.{Input, Got, Lapsed, Born}
 use Rattle.hy_core.specs.Computation.{Did, Used, Run, run, after, after_all, dones}

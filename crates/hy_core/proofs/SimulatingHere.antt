@@ -2,10 +2,10 @@
 use Rattle.std.proofs.Common.{◌≡◌, ℕ, List, [], map, Some, refl, sym, ap, ◌∙◌, subst}
 use Rattle.std.proofs.lemmas.List.{map-id}
 use Rattle.std.specs.List.{All}
-use Rattle.hy_core.specs.RunComparison.{Waiting, SameWait, SameRun}
+use Rattle.hy_core.specs.Comparison.{Waiting, SameWait, SameRun}
 use Rattle.hy_core.specs.Computation.{Computation, Give, Raise, Fault, Act, Call, Birth, Receive, attempt, bind, Input, run, dones}
 use Rattle.hy_core.specs.Simulation.{Simulates, map_calls}
-use Rattle.hy_core.proofs.ComparingRuns.{map_inputs-id}
+use Rattle.hy_core.proofs.Comparing.{map_inputs-id}
 use Rattle.hy_core.proofs.Simulating.{simulates_attempt, simulates_run, simulates_does}
 
 -- values that are given

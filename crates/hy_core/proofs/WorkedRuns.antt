@@ -5,7 +5,8 @@ use Rattle.hy_terms.specs.Term as term
 use Rattle.hy_terms.specs.Term.{NoTerms, MoreTerms}
 use Rattle.hy_core.specs.declared.end.End.{End}
 use Rattle.hy_core.specs.declared.step.Step.{Step}
-use Rattle.hy_core.specs.FullRun.{NeverStopped, IsFullRun, IsRunOf, runs_of, after_run}
+use Rattle.hy_core.specs.FullRun.{NeverStopped, IsFullRun, runs_of, after_run}
+use Rattle.hy_core.specs.WrittenRun.{IsRunOf}
 use Rattle.hy_core.specs.Resolved.{FunctionTree}
 use Rattle.hy_core.specs.Syntax.{Syntax, module_trees}
 use Rattle.hy_core.specs.Worked.{atoms, names, event, took, lapsed, modules, program, limit, nothing, least, past_the_range, least_divided, division, two_messages, no_clauses, only_b, waits_for_ever, either, guarded, shown_in_order, printed_source, ordered_source, to_no_pid, case_of_nothing, fails_in_a_function, fails_to_match, throws, reversed, parent, child, two_and_take, one_and_poll, NumbersHaveARange, DivisionCuts, ReceiveSelects, ReceiveLapsesOrWaits, MessageBeforeClause, GuardsHoldByTrue, PartsGoFromLeft, TermsPrint, TermsAreOrdered, RaisesEnd, PreludeCounts, StartCostsNothing, ParentAndChild, AreNoRuns}

@@ -4,8 +4,7 @@ use Rattle.hy_core.specs.ProgramTrees.{true_places, functions_from, modules_from
 use Rattle.hy_core.specs.Resolve.{Names, resolve}
 use Rattle.hy_core.specs.Resolved.{FunctionTree}
 use Rattle.hy_core.specs.Supplied.{Supply, behind, supplied}
-use Rattle.hy_core.specs.Syntax.{Syntax, Definitions, NoDefinitions, MoreDefinitions, ModuleSyntax, tree, definition_trees, module_trees}
-use Rattle.hy_core.specs.declared.tree.Function.{Function}
+use Rattle.hy_core.specs.Syntax.{Syntax, Definitions, NoDefinitions, MoreDefinitions, ModuleSyntax, definition_trees, module_trees}
 use Rattle.hy_core.proofs.EventNodes.{events, written_events}
 use Rattle.hy_core.proofs.SyntaxLemmas.{syntax_back}
 

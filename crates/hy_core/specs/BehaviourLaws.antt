@@ -8,7 +8,7 @@ use Rattle.hy_core.specs.declared.end.End.{End}
 use Rattle.hy_core.specs.declared.step.Step.{Step}
 use Rattle.hy_terms.specs.Term.{Term}
 use Rattle.hy_core.specs.declared.class.Class.{Class}
-use Rattle.hy_core.specs.RunComparison.{map_input, map_event, SameRun, events_only}
+use Rattle.hy_core.specs.Comparison.{map_input, map_event, SameRun, events_only}
 use Rattle.hy_core.specs.Computation.{Input, Run, dones, result_of}
 use Rattle.hy_core.specs.Evaluation.{Callee, Top, body_of}
 use Rattle.hy_core.specs.Event.{Event}

@@ -58,15 +58,7 @@ abbrev pub main_of : Names → List Module → Option ℕ
 main_of names [] = None
 main_of names (m ∷ ms) = main_number names.atoms names.functions m.name
 
--- A full run of the functions of these modules, with these ends and this output. The names tell what their
--- calls name, and the sites are taken in order.
-pub record IsRunOf (names : Names) (sites : List ℕ) (modules : List Module) (limit : ℕ)
-    (stopped : Process Term → Cause → Type 0) (steps : List Step) (ends : List End) (output : List ℕ) : Type 0 where
-  pub main : ℕ
-  pub is_main : main_of names modules ≡ Some main
-  pub run : IsFullRun (function_trees names sites modules) names.atoms limit stopped main steps ends output
-
--- The same of a program, with its own atoms, functions and sites.
+-- what the calls of a program name
 abbrev pub names_of : Program → Names
 names_of program = record { atoms = program_atoms program; functions = program_functions program }
 
@@ -74,13 +66,18 @@ abbrev pub numbers_from : ℕ → List SiteInfo → List ℕ
 numbers_from n [] = []
 numbers_from n (site ∷ sites) = n ∷ numbers_from (suc n) sites
 
+-- the numbers of its sites, in order
 abbrev pub sites_of : Program → List ℕ
 sites_of program = numbers_from 0 (program_sites program)
 
+-- its functions by their numbers
 abbrev pub trees_of : Program → List FunctionTree
 trees_of program = function_trees (names_of program) (sites_of program) (modules_of (numbered_program program))
 
-abbrev pub IsRun : Program → (limit : ℕ) → (stopped : Process Term → Cause → Type 0)
-    → List Step → List End → (output : List ℕ) → Type 0
-IsRun program limit stopped steps ends output =
-    IsRunOf (names_of program) (sites_of program) (modules_of (numbered_program program)) limit stopped steps ends output
+-- A full run of the program from the first module's 'main'/0, with these ends and this output: its atoms,
+-- functions and sites are its own.
+pub record IsRun (program : Program) (limit : ℕ) (stopped : Process Term → Cause → Type 0)
+    (steps : List Step) (ends : List End) (output : List ℕ) : Type 0 where
+  pub main : ℕ
+  pub is_main : main_of (names_of program) (modules_of (numbered_program program)) ≡ Some main
+  pub run : IsFullRun (trees_of program) (program_atoms program) limit stopped main steps ends output

@@ -56,4 +56,5 @@ pub mod Worked
 pub mod WorkedBuiltIns
 pub mod WorkedOutcomes
 pub mod WorkedPatterns
+pub mod WrittenRun
 pub use Rattle.hy_terms.specs.Naming

@@ -1,6 +1,6 @@
 -- The functions of a program as evaluation reads them: resolved, with the numbers of their events and of
 -- their sites. This project's own.
-use Rattle.std.specs.Prelude.{ℕ, suc, Bool, true, false, if◌then◌else◌, List, [], ◌∷◌, ◌++◌, map, Option, Some, None}
+use Rattle.std.specs.Prelude.{ℕ, suc, Bool, true, false, if◌then◌else◌, List, [], ◌∷◌, ◌++◌, map, Option, Some}
 use Rattle.hy_terms.specs.Naming.{text_of}
 use Rattle.hy_core.specs.BuiltIn.{Operation, Sends, Spawns, Displays, operation_named}
 use Rattle.hy_core.specs.Nodes.{Piece, AnExpr, Node, nodes_of}

@@ -1,7 +1,7 @@
 -- From the trees of a program to expressions in which each call says what it calls. What an applied name
 -- and a call name is as in the Core Erlang 1.0.3 report; which built-ins there are and the guard form of
 -- `try` are this project's own.
-use Rattle.std.specs.Prelude.{ℕ, ◌==◌, ◌&&◌, ◌||◌, if◌then◌else◌, List, [], ◌∷◌, ◌++◌, length, codes, Option, Some, None, Bool, true, false, pos}
+use Rattle.std.specs.Prelude.{ℕ, ◌==◌, ◌&&◌, ◌||◌, if◌then◌else◌, List, [], ◌∷◌, ◌++◌, length, codes, Option, Some, None, Bool, false, pos}
 use Rattle.std.specs.Ordering.{int_eq}
 use Rattle.std.specs.Str.{bytes_eq}
 use Rattle.hy_terms.specs.Naming.{one_on, text_of}

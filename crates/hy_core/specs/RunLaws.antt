@@ -4,7 +4,8 @@ use Rattle.hy_terms.specs.Term.{Term}
 use Rattle.hy_core.specs.declared.end.End.{End}
 use Rattle.hy_core.specs.declared.end.End.TheVariants.{Ended, Waits}
 use Rattle.hy_core.specs.declared.step.Step.{Step}
-use Rattle.hy_core.specs.FullRun.{NeverStopped, IsFullRun, after_run}
+use Rattle.hy_core.specs.declared.tree.Program.{Program}
+use Rattle.hy_core.specs.FullRun.{NeverStopped, IsFullRun, IsRun, after_run}
 use Rattle.hy_core.specs.Machine.{Configuration}
 use Rattle.hy_core.specs.ProgramTrees.{function_trees}
 use Rattle.hy_core.specs.Resolved.{FunctionTree, AnyTerm, NoPatterns, MorePatterns}
@@ -28,6 +29,13 @@ module _ (program : List FunctionTree) (atoms : List (List ℕ)) (calls main : �
     pub one_end :
         (steps : List Step) (ends others : List End) (output other : List ℕ) →
         Full steps ends output → Full steps others other → (ends ≡ others) × (output ≡ other)
+
+-- the steps of a run of a program determine the ends and what is written
+abbrev pub ProgramsEndOnce : Type 0
+ProgramsEndOnce =
+    (program : Program) (limit : ℕ) (steps : List Step) (ends others : List End) (output other : List ℕ) →
+    IsRun program limit NeverStopped steps ends output → IsRun program limit NeverStopped steps others other →
+    (ends ≡ others) × (output ≡ other)
 
 -- what is no run
 

@@ -5,7 +5,7 @@ use Rattle.hy_core.specs.declared.class.Class.{Class}
 use Rattle.hy_core.specs.declared.end.Cause.{Cause}
 use Rattle.hy_core.specs.declared.end.End.{End}
 use Rattle.hy_core.specs.declared.step.Step.{Step}
-use Rattle.hy_core.specs.RunComparison.{map_input, map_event, Waiting, SameResult}
+use Rattle.hy_core.specs.Comparison.{map_input, map_event, Waiting, SameResult}
 use Rattle.hy_core.specs.Computation.{Input, Result}
 use Rattle.hy_core.specs.Event.{Event, Sent, Spawned, Printed}
 use Rattle.hy_core.specs.Machine.{Message, Process, Configuration, Behaviour, IsFull}

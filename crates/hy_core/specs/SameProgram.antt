@@ -3,7 +3,7 @@ use Rattle.std.specs.Prelude.{ℕ, List, Some}
 use Rattle.std.specs.List.{All}
 use Rattle.hy_terms.specs.Term.{Term}
 use Rattle.hy_core.specs.declared.class.Class.{Class}
-use Rattle.hy_core.specs.RunComparison.{Waiting, SameRun}
+use Rattle.hy_core.specs.Comparison.{Waiting, SameRun}
 use Rattle.hy_core.specs.Computation.{Input, Run, dones}
 use Rattle.hy_core.specs.Evaluation.{Wait, accepts, Top, body_of, run_of}
 use Rattle.hy_core.specs.Event.{Event}

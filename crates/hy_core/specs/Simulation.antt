@@ -1,7 +1,7 @@
 -- When one computation does what another does, step by step, up to acts that only the second has: a
 -- simulation (R. Milner, Communication and Concurrency, 1989), here by recursion on the trees.
 use Rattle.std.specs.Prelude.{◌≡◌, ℕ, List, map, Option, None, Some}
-use Rattle.hy_core.specs.RunComparison.{Waiting, SameWait}
+use Rattle.hy_core.specs.Comparison.{Waiting, SameWait}
 use Rattle.hy_core.specs.Computation.{Computation, Give, Raise, Fault, Act, Call, Birth, Receive}
 
 -- Allowed: what holds of each act of the first; Calls: a call of the first with its arguments, and

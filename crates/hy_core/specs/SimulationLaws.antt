@@ -1,7 +1,7 @@
 -- Laws of simulation. Each is the clause of a function in the module `laws`.
 use Rattle.std.specs.Prelude.{◌≡◌, ℕ, List, [], map, Option, None, Some}
 use Rattle.std.specs.List.{filter_map, All}
-use Rattle.hy_core.specs.RunComparison.{Waiting, map_input, SameWait, SameRun}
+use Rattle.hy_core.specs.Comparison.{Waiting, map_input, SameWait, SameRun}
 use Rattle.hy_core.specs.Computation.{Computation, Act, attempt, Input, Run, run, dones}
 use Rattle.hy_core.specs.Simulation.{Simulates, map_calls}
 

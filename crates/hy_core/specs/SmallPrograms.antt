@@ -7,7 +7,8 @@ use Rattle.hy_core.specs.declared.info.FunInfo.{FunInfo}
 use Rattle.hy_core.specs.declared.step.Step.{Step}
 use Rattle.hy_core.specs.declared.tree.FunName.{FunName}
 use Rattle.hy_core.specs.BuiltIn.{own_atoms}
-use Rattle.hy_core.specs.FullRun.{NeverStopped, IsRunOf}
+use Rattle.hy_core.specs.FullRun.{NeverStopped}
+use Rattle.hy_core.specs.WrittenRun.{IsRunOf}
 use Rattle.hy_core.specs.Resolve.{Names}
 use Rattle.hy_core.specs.Syntax as syntax
 use Rattle.hy_core.specs.Syntax.{Syntax, Syntaxes, NoSyntax, MoreSyntax, NoDefinitions, MoreDefinitions, ModuleSyntax, module_trees}

@@ -2,7 +2,7 @@
 -- order of the text, in which what has numbers of its own comes before its parts. Numbers are this
 -- project's own, and no meaning depends on them.
 use Rattle.std.specs.Prelude.{ℕ, suc, List, [], ◌∷◌, drop}
-use Rattle.hy_core.specs.Resolved.{Head, BuiltIn, Function, Local, Setelement, Send, Spawn, Display, Raising, MatchFail, Expression, Int, Atom, Nil, Text, Variable, Tuple, ListOf, Values, Let, Do, Case, Letrec, Call, Receive, Refused, Expressions, NoExpressions, MoreExpressions, Clauses, NoClauses, MoreClauses, Functions, NoFunctions, MoreFunctions}
+use Rattle.hy_core.specs.Resolved.{Head, Setelement, Send, Spawn, Display, Expression, Int, Atom, Nil, Text, Variable, Tuple, ListOf, Values, Let, Do, Case, Letrec, Call, Receive, Refused, Expressions, NoExpressions, MoreExpressions, Clauses, NoClauses, MoreClauses, Functions, NoFunctions, MoreFunctions}
 
 -- the numbers that are left
 pub record Supply : Type 0 where

@@ -10,12 +10,13 @@ use Rattle.hy_core.specs.declared.step.Step.{Step}
 use Rattle.hy_core.specs.declared.tree.FunName.{FunName}
 use Rattle.hy_core.specs.BuiltIn.{own_atoms}
 use Rattle.hy_core.specs.Computation.{Spent}
-use Rattle.hy_core.specs.FullRun.{NeverStopped, IsRunOf, after_run, runs_of}
+use Rattle.hy_core.specs.FullRun.{NeverStopped, after_run, runs_of}
 use Rattle.hy_core.specs.Machine.{Configuration}
 use Rattle.hy_core.specs.ProgramTrees.{function_trees}
 use Rattle.hy_core.specs.Resolve.{Names}
 use Rattle.hy_core.specs.Resolved.{FunctionTree, Pattern, AnyTerm, TheInt, TheAtom, TheNil, TheList, NoPatterns, MorePatterns}
 use Rattle.hy_core.specs.Syntax as syntax
+use Rattle.hy_core.specs.WrittenRun.{IsRunOf}
 use Rattle.hy_core.specs.Syntax.{Syntax, Syntaxes, NoSyntax, MoreSyntax, NoDefinitions, MoreDefinitions, ModuleSyntax, module_trees}
 
 -- behind the own atoms:

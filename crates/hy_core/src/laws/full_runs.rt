@@ -1,11 +1,12 @@
 ghost use Rattle.std.specs.Prelude.{ℕ, List};
 ghost use Rattle.hy_core.specs.Resolved.{FunctionTree};
-ghost use Rattle.hy_core.specs.RunLaws.{FullRunsAreLast, AreNotAllowed, AreNotFull};
+ghost use Rattle.hy_core.specs.RunLaws.{FullRunsAreLast, ProgramsEndOnce, AreNotAllowed, AreNotFull};
 
 /// A run that is full with no process stopped allows no further step, and its steps determine how each
-/// process ends and what is written.
+/// process ends and what is written. So it is of a program, with its own atoms, functions and sites.
 pub fn full_runs_are_last()
-    ensures { (program : List FunctionTree) (atoms : List (List ℕ)) (calls main : ℕ) →
+    ensures programs { ProgramsEndOnce }
+    ensures functions { (program : List FunctionTree) (atoms : List (List ℕ)) (calls main : ℕ) →
         FullRunsAreLast program atoms calls main }
 {}
 

@@ -7,7 +7,7 @@ ghost use Rattle.hy_core.specs.BehaviourLaws.{
   SimulatedProgramIsSame,
 };
 ghost use Rattle.hy_core.specs.Evaluation.{Callee};
-ghost use Rattle.hy_core.specs.RunComparisonLaws.{
+ghost use Rattle.hy_core.specs.ComparisonLaws.{
   ComparesWithItself,
   Composes,
   ComposesOverSame,

@@ -1,4 +1,4 @@
-use Rattle.hy_core.proofs.ComparingRuns.{run_through}
+use Rattle.hy_core.proofs.Comparing.{run_through}
 use Rattle.hy_core.proofs.laws.simulation.comparison_composes.Goals as goal
 
 pub returns : goal.returns

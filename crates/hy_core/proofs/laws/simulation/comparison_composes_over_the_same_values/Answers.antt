@@ -1,4 +1,4 @@
-use Rattle.hy_core.proofs.ComparingRuns.{run_behind}
+use Rattle.hy_core.proofs.Comparing.{run_behind}
 use Rattle.hy_core.proofs.laws.simulation.comparison_composes_over_the_same_values.Goals as goal
 
 pub returns : goal.returns

@@ -1,4 +1,4 @@
-use Rattle.hy_core.proofs.ComparingRuns.{same_run}
+use Rattle.hy_core.proofs.Comparing.{same_run}
 use Rattle.hy_core.proofs.laws.simulation.runs_compare_with_themselves.Goals as goal
 
 pub returns : goal.returns

@@ -1,4 +1,4 @@
-use Rattle.hy_core.proofs.ComparingRuns.{equal_run}
+use Rattle.hy_core.proofs.Comparing.{equal_run}
 use Rattle.hy_core.proofs.laws.simulation.same_runs_are_equal.Goals as goal
 
 pub returns : goal.returns

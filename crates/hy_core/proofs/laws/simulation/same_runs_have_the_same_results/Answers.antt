@@ -1,4 +1,4 @@
-use Rattle.hy_core.proofs.ComparingRuns.{same_result}
+use Rattle.hy_core.proofs.Comparing.{same_result}
 use Rattle.hy_core.proofs.laws.simulation.same_runs_have_the_same_results.Goals as goal
 
 pub returns : goal.returns

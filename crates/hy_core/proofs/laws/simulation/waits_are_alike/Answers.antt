@@ -1,4 +1,4 @@
-use Rattle.hy_core.proofs.ComparingRuns.{waits_alike}
+use Rattle.hy_core.proofs.Comparing.{waits_alike}
 use Rattle.hy_core.proofs.laws.simulation.waits_are_alike.Goals as goal
 
 pub returns : goal.returns
