@@ -11,19 +11,27 @@ use Rattle.hy_words.specs.Names.{NamesOnly}
 
 -- a larger heap and a larger area stand for the same
 abbrev pub GrowingKeepsTerms : Type 0
-GrowingKeepsTerms = (heap area more_heap more_area : List ℕ) (t : Labelled) (w : ℕ) → Grown heap more_heap → Grown area more_area → Stands heap area t w → Stands more_heap more_area t w
+GrowingKeepsTerms =
+    (heap area more_heap more_area : List ℕ) (t : Labelled) (w : ℕ)
+    → Grown heap more_heap → Grown area more_area
+    → Stands heap area t w → Stands more_heap more_area t w
 
 -- one word stands for one term
 abbrev pub OneWordOneTerm : Type 0
-OneWordOneTerm = (heap area : List ℕ) (t u : Labelled) (w : ℕ) → Stands heap area t w → Stands heap area u w → t ≡ u
+OneWordOneTerm =
+    (heap area : List ℕ) (t u : Labelled) (w : ℕ)
+    → Stands heap area t w → Stands heap area u w → t ≡ u
 
 -- a word that is not private stands for the same over each heap
 abbrev pub AreaKeepsTerms : Type 0
-AreaKeepsTerms = (heap other area : List ℕ) (t : Labelled) (w : ℕ) → tag_of w ≢ private_tag → Stands heap area t w → Stands other area t w
+AreaKeepsTerms =
+    (heap other area : List ℕ) (t : Labelled) (w : ℕ) → tag_of w ≢ private_tag
+    → Stands heap area t w → Stands other area t w
 
 -- no shared node of what a word stands for has a private child
 abbrev pub WordsStandForLabelled : Type 0
-WordsStandForLabelled = (heap area : List ℕ) (t : Labelled) (w : ℕ) → Stands heap area t w → IsLabelled t
+WordsStandForLabelled =
+    (heap area : List ℕ) (t : Labelled) (w : ℕ) → Stands heap area t w → IsLabelled t
 
 -- each scalar stands for a term
 abbrev pub ScalarsStand : Type 0
@@ -32,7 +40,8 @@ ScalarsStand = (heap area : List ℕ) (w : ℕ) → IsScalar w → (t : Labelled
 -- a word that is not private and stands for a term is a value
 abbrev pub SharedWordsAreValues : Type 0
 SharedWordsAreValues =
-    (heap area : List ℕ) (t : Labelled) (w : ℕ) → Stands heap area t w → tag_of w ≢ private_tag → IsValue w
+    (heap area : List ℕ) (t : Labelled) (w : ℕ) → Stands heap area t w
+    → tag_of w ≢ private_tag → IsValue w
 
 -- the headers of terms are those of tuples and conses
 abbrev pub TermHeadersByTag : Type 0
