@@ -9,6 +9,7 @@ use Rattle.commons.specs.Area.{IsWhole}
 use Rattle.commons.specs.Views.{KnowsCell, Fits, KnowsPlace, MayPut}
 use Rattle.commons.specs.Changes.{Puts}
 use Rattle.commons.proofs.Cells.{whole_grows, grown_on, inside_of}
+use Rattle.commons.proofs.Grows.{log_begins}
 
 module _ (capacity : ℕ) (v w : View) (more : StartsWith w.known v.known) (grown : Grown v.seen w.seen) where
   known_on : (x : ℕ) → Has v.known x → Has w.known x
@@ -29,7 +30,7 @@ module _ (capacity : ℕ) (v w : View) (more : StartsWith w.known v.known) (grow
       (λ (t : Has v.known (area_word_of cell) ⊎ Has v.seen (area_word_of cell)). inr (⊎_elim (λ (x : Has v.known (area_word_of cell)). inl (known_on (area_word_of cell) x)) (λ (x : Has v.seen (area_word_of cell)). inr (seen_on cell x)) t)) h
 
   pub fits_before : (area : List ℕ) → Fits capacity w area → Fits capacity v area
-  fits_before area f = record { sized = f.sized; closed = f.closed; agrees = grown_on v.seen w.seen area grown f.agrees; whole = λ cell h. f.whole cell (knows_on cell h) }
+  fits_before area f = record { sized = f.sized; closed = f.closed; agrees = grown_on v.seen w.seen area grown f.agrees; whole = λ cell h. f.whole cell (knows_on cell h); log = log_begins (length w.known) w.known area v.known f.log more }
 
   pub knows_place_on : (place : ℕ) → KnowsPlace capacity v place → KnowsPlace capacity w place
   knows_place_on place h = (h.0, knows_on h.0 h.1, λ area f. h.2 area (fits_before area f))

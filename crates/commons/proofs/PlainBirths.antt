@@ -13,6 +13,7 @@ use Rattle.commons.specs.declared.plain.Account.{Account}
 use Rattle.commons.specs.declared.plain.PlainCommons.{PlainCommons}
 use Rattle.commons.specs.declared.plain.PlainPass.{PlainPass}
 use Rattle.commons.specs.Log.{own_places}
+use Rattle.commons.specs.Views.{IsAreaSize, IsLogSize}
 use Rattle.commons.specs.Changes.{KeepsOthers, IsApartFrom, IsChildOf, Bears}
 use Rattle.commons.specs.Rule.{At, IsKept, bore, born_of, gave_up}
 use Rattle.commons.specs.Plain.{children_of, shown, no_account, account_in, shown_in, view_in, views_in, area_size_in, log_size_in, AreAccounts, IsPassIn, IsApartIn}
@@ -84,13 +85,13 @@ birth_step c d p child q h names size area log claim room accounts slot pid =
     let below : (k : ℕ) → k < length xs → k < length d.accounts.items = λ k l. omega arith in
     let parent_there : p.slot < length d.accounts.items = below p.slot h.there in
     let child_there : child.slot < length d.accounts.items = omega arith in
-    let low_log : d.log_size ≤ 4194304 = let l = h.log_low in omega arith in
+    let log_size : IsLogSize (log_size_in d) = subst IsLogSize (sym size) h.log_size in
     let reserved : d.log_size ≤ vec_capacity d.log = omega arith in
     let all : (words, (cells, ys)) ≡ (d.log.items, (d.area.items, d.accounts.items)) = λ i. (sym log i, (sym area i, sym accounts i)) in
     let kept : IsKept (area_size_in d) (log_size_in d) d.claim d.log.items d.area.items (views_in d) =
     subst (λ (t : List ℕ × (List ℕ × List Account)). IsKept (length t.1.0) (log_size_in d) d.claim t.0 t.1.0 (map (shown t.0 t.1.0 t.1.1) t.1.1)) all
     (subst (λ (s : ℕ × (ℕ × List View)). IsKept (length cells) s.0 s.1.0 words cells s.1.1) (λ i. (sym size i, (sym claim i, sym views i))) rule) in
-    let low_area : length d.area.items ≤ 67108864 = subst (λ (a : List ℕ). length a ≤ 67108864) (sym area) h.area_low in
+    let area_size : IsAreaSize (area_size_in d) = subst (λ (a : List ℕ). IsAreaSize (length a)) (sym area) h.area_size in
     let rows_d : AreAccounts d.log.items d.accounts.items = subst (λ (t : List ℕ × (List ℕ × List Account)). AreAccounts t.0 t.1.1) all rows in
     let at : (k : ℕ) → k < length xs → nth d.accounts.items k ≡ nth mid k = λ k l. ap (λ (ws : List Account). nth ws k) accounts ∙ get_or_append_left mid (z ∷ []) no_account k (inside k l) in
     let at_p : account_in d p ≡ x = at p.slot h.there ∙ at_mid in
@@ -99,18 +100,18 @@ birth_step c d p child q h names size area log claim room accounts slot pid =
     let grown : Grown cells d.area.items = subst (Grown cells) (sym area) (grown_same cells) in
     let seen : (w : View) (u : View) → w ≡ record u { seen = cells } → w ≡ record u { seen = d.area.items } = λ w u e. e ∙ ap (λ (a : List ℕ). record u { seen = a }) (sym area) in (
       (
-        a_pass d p parent_there (ap (λ (w : Account). w.pid) at_p ∙ h.pid) low_area low_log reserved rows_d kept,
+        a_pass d p parent_there (ap (λ (w : Account). w.pid) at_p ∙ h.pid) area_size log_size reserved rows_d kept,
         λ r hr apart.
             let r_there = below r.slot hr.there in
             let other : r.slot ≢ p.slot = λ e. apart (sym h.pid ∙ (ap (λ (k : ℕ). (nth xs k).pid) (sym e) ∙ hr.pid)) in
             let at_r : account_in d r ≡ account_in c r = at r.slot hr.there ∙ get_or-set_other xs p.slot r.slot x no_account other in (
-              a_pass d r r_there (ap (λ (w : Account). w.pid) at_r ∙ hr.pid) low_area low_log reserved rows_d kept,
+              a_pass d r r_there (ap (λ (w : Account). w.pid) at_r ∙ hr.pid) area_size log_size reserved rows_d kept,
               apart,
               (seen (view_in d r) (view_in c r) (ap (shown_in d) at_r ∙ (shows (account_in c r) ∙ others r.slot other hr.there)), grown),
             ),
       ),
       (
-        a_pass d child child_there (ap (λ (w : Account). w.pid) at_child ∙ sym pid) low_area low_log reserved rows_d kept,
+        a_pass d child child_there (ap (λ (w : Account). w.pid) at_child ∙ sym pid) area_size log_size reserved rows_d kept,
         ((λ e. mine (h.pid ∙ (e ∙ pid))), λ r hr apart e. free r.slot hr.there (hr.pid ∙ (sym e ∙ pid))),
       ),
       (seen (view_in d child) (born_of v q) (ap (shown_in d) at_child ∙ (shows z ∙ born)), grown),

@@ -12,7 +12,7 @@ use Rattle.commons.specs.declared.view.View.{View}
 use Rattle.commons.specs.declared.view.Refusal.{Refusal}
 use Rattle.commons.specs.Area.{IsEntryCell, IsTermCell, IsClosed}
 use Rattle.commons.specs.Log.{header_at, actor_of, text_of, own_places, prints, prints_at, IsLog}
-use Rattle.commons.specs.Views.{Fits, MayPut, IsSound}
+use Rattle.commons.specs.Views.{Fits, MayPut, IsAreaSize, IsLogSize, IsSound}
 use Rattle.commons.specs.Changes.{longer}
 use Rattle.commons.specs.Rule.{one_if_some, refusals, HasBlock, HasKnown, HasOwn, IsSpawnAt, HasPid, HasRefusal, IsAccount, AreApart, At, IsKept, claimed, denied, wrote, read, learnt, appended, gave_up, or_nil, told_of, settled}
 use Rattle.commons.proofs.Begins.{one_further, begins_more, whole_begin, last_of, own_else, own_here, has_last, at_most_one}
@@ -386,11 +386,12 @@ appends_kept a l c k log area views v entry child r at whole room six cell mine_
     }
 
 -- what holds of each pass between calls
-pub sound_at : (a l c k : ℕ) (log area : List ℕ) (views : List View) (v : View) → IsKept a l c log area views → At views k v → v.told ≡ None → IsSound a l v
-sound_at a l c k log area views v r at settled =
+pub sound_at : (a l c k : ℕ) (log area : List ℕ) (views : List View) (v : View) → IsAreaSize a → IsLogSize l → IsKept a l c log area views → At views k v → v.told ≡ None → IsSound a l v
+sound_at a l c k log area views v area_size log_size r at settled =
     let m = r.each k v at in
     let reach = known_length log v.known m.knows.begins in
     let short = r.entries.short in record {
+      sizes = (area_size, log_size);
       short = omega arith;
       names_entries = λ j h. ap tag_of (sym (known_in_log log v.known j m.knows.begins h)) ∙ (r.entries.entries j (omega arith)).0;
       settled = settled;

@@ -6,7 +6,7 @@ use Rattle.commons.specs.declared.plain.Account.{Account}
 use Rattle.commons.specs.declared.plain.PlainCommons.{PlainCommons}
 use Rattle.commons.specs.declared.plain.PlainPass.{PlainPass}
 use Rattle.commons.specs.Log.{own_places}
-use Rattle.commons.specs.Views.{IsSound}
+use Rattle.commons.specs.Views.{IsAreaSize, IsLogSize, IsSound}
 use Rattle.commons.specs.Rule.{IsKept}
 
 abbrev pub is_parent : Option ℕ → ℕ → Bool
@@ -43,6 +43,10 @@ area_size_in c = length c.area.items
 abbrev pub log_size_in : PlainCommons → ℕ
 log_size_in c = c.log_size
 
+-- the claim word
+abbrev pub claim_in : PlainCommons → ℕ
+claim_in c = c.claim
+
 -- the written words of the log
 abbrev pub log_in : PlainCommons → List ℕ
 log_in c = c.log.items
@@ -56,8 +60,8 @@ pub record AreAccounts (log : List ℕ) (accounts : List Account) : Type 0 where
 pub record IsPassIn (c : PlainCommons) (p : PlainPass) : Type 0 where
   pub there : p.slot < length c.accounts.items
   pub pid : (account_in c p).pid ≡ p.pid
-  pub area_low : length c.area.items ≤ 67108864
-  pub log_low : c.log_size ≤ 4194304
+  pub area_size : IsAreaSize (area_size_in c)
+  pub log_size : IsLogSize (log_size_in c)
   pub reserved : c.log_size ≤ vec_capacity c.log
   pub accounts : AreAccounts c.log.items c.accounts.items
   pub kept : IsKept (area_size_in c) (log_size_in c) c.claim c.log.items c.area.items (views_in c)

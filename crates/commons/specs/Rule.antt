@@ -168,10 +168,3 @@ settled v = record v { known = longer v.known (or_nil v.told); told = None }
 -- the first pass, before it did anything
 abbrev pub first_view : (area_size : ℕ) → View
 first_view area_size = record { pid = 0; known = []; told = None; own = []; born = []; unborn = None; block_start = 0; block_end = 0; seen = replicate area_size 0; looks = 0; puts = 0; requests = 0; refused = None }
-
--- the sizes that a commons may have
-abbrev pub IsAreaSize : ℕ → Type 0
-IsAreaSize n = (256 ≤ n) × (n ≤ 67108864)
-
-abbrev pub IsLogSize : ℕ → Type 0
-IsLogSize n = (1 ≤ n) × (n ≤ 4194304)

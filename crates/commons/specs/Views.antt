@@ -7,6 +7,7 @@ use Rattle.hy_words.specs.Stands.{Stands}
 use Rattle.hy_words.specs.Names.{NamesOnly}
 use Rattle.commons.specs.declared.view.View.{View}
 use Rattle.commons.specs.Area.{IsWhole, IsClosed}
+use Rattle.commons.specs.Log.{IsLog}
 
 -- a pass knows a cell all of whose words it read or wrote, the cell of a known log word, and that of an area word which it read or wrote
 abbrev pub KnowsCellBy : (known seen : List ℕ) → ℕ → Type 0
@@ -15,12 +16,14 @@ KnowsCellBy known seen cell = IsWhole seen cell ⊎ (Has known (area_word_of cel
 abbrev pub KnowsCell : View → ℕ → Type 0
 KnowsCell v cell = KnowsCellBy v.known v.seen cell
 
--- an area fits a pass where it is closed, agrees with the words that the pass read or wrote, and has each known cell whole
+-- an area fits a pass where it is closed, agrees with the words that the pass read or wrote, has each known cell whole,
+-- and the known words are a log over it
 pub record FitsBy (capacity : ℕ) (known seen area : List ℕ) : Type 0 where
   pub sized : length area ≡ capacity
   pub closed : IsClosed area
   pub agrees : Grown seen area
   pub whole : (cell : ℕ) → KnowsCellBy known seen cell → IsWhole area cell
+  pub log : IsLog (length known) known area
 
 abbrev pub Fits : (capacity : ℕ) → View → List ℕ → Type 0
 Fits capacity v area = FitsBy capacity v.known v.seen area
@@ -37,8 +40,16 @@ MayPut capacity v word = IsHeader word ⊎ (IsScalar word ⊎ ((cell : ℕ) × (
 abbrev pub StandsFor : (capacity : ℕ) (heap : List ℕ) → View → ℕ → Type 0
 StandsFor capacity heap v w = (area : List ℕ) → Fits capacity v area → (t : Labelled) × Stands heap area t w × NamesOnly heap (KnowsCell v) t w
 
+-- the sizes that a commons may have
+abbrev pub IsAreaSize : ℕ → Type 0
+IsAreaSize n = (256 ≤ n) × (n ≤ 67108864)
+
+abbrev pub IsLogSize : ℕ → Type 0
+IsLogSize n = (1 ≤ n) × (n ≤ 4194304)
+
 -- what holds of each pass of a commons with such sizes, between calls
 pub record IsSound (area_size log_size : ℕ) (v : View) : Type 0 where
+  pub sizes : IsAreaSize area_size × IsLogSize log_size
   pub short : length v.known ≤ log_size
   pub names_entries : (k : ℕ) → k < length v.known → tag_of (slice_index v.known k) ≡ 6
   pub settled : v.told ≡ None

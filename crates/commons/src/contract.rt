@@ -43,14 +43,18 @@ pub trait Commons {
     ghost later: { Self → Self → Type 0 };
 
     /// Adds `n` to the claim word. Where the old word and `n` fit the capacity, the pass owns the `n`
-    /// words from the old word on, and gives its former rest up. Else its block stays.
+    /// words from the old word on, all of them behind its former block, and gives the rest of that up.
+    /// Else its block stays, and it may not claim again. `n` is at least 1, and at most one more than
+    /// the capacity.
     fn claim(&mut self, pass: &mut Self::Pass, n: u64) -> Result<(), AreaFull>
         requires pass { is_pass self.old pass.old }
         requires first { (view self.old pass.old).refused ≡ None }
         requires bounds { (1 ≤ n) × (n ≤ area_size self.old + 1) }
         ensures later { later self.old self.new }
         ensures others { KeepsOthers is_pass apart view self.old pass.old self.new pass.new }
-        ensures owns { OnOk result ((old : ℕ) × (old + n ≤ area_size self.old) × Claims (view self.old pass.old) old n (view self.new pass.new)) }
+        ensures owns { OnOk result ((old : ℕ)
+            × ((view self.old pass.old).block_end ≤ old) × (old + n ≤ area_size self.old)
+            × Claims (view self.old pass.old) old n (view self.new pass.new)) }
         ensures full { IfErr result (λ e. (e.asked ≡ n) × (e.capacity ≡ area_size self.old) × (area_size self.old < e.old + n)) }
         ensures refused { IfErr result (λ e. Refuses (view self.old pass.old) e.old n (view self.new pass.new)) };
 

@@ -18,7 +18,6 @@ pub fn put_send<C: Commons>(
     message: u64,
 ) -> u64
     requires pass { C.is_pass c.old pass.old }
-    requires capacity { C.area_size c.old < 2 ^ 59 }
     requires room { (C.view c.old pass.old).block_start + 4 ≤ (C.view c.old pass.old).block_end }
     requires actor { actor ≡ (C.view c.old pass.old).pid }
     requires pids { (actor < 2 ^ 59) × (target < 2 ^ 59) }
@@ -42,7 +41,6 @@ pub fn put_send<C: Commons>(
 /// text is the number of the actor's print entries so far.
 pub fn put_print<C: Commons>(c: &mut C, pass: &mut C::Pass, actor: u64, text: u64) -> u64
     requires pass { C.is_pass c.old pass.old }
-    requires capacity { C.area_size c.old < 2 ^ 59 }
     requires room { (C.view c.old pass.old).block_start + 3 ≤ (C.view c.old pass.old).block_end }
     requires actor { actor ≡ (C.view c.old pass.old).pid }
     requires numbers { (actor < 2 ^ 59) × (text < 2 ^ 59) }

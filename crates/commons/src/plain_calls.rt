@@ -1,9 +1,9 @@
 //! The calls of the plain commons.
-ghost use Rattle.std.specs.Prelude.{◌≡◌, ◌⊎◌, ◌+◌, ◌^◌, ◌<◌, ◌≤◌, length, ◌↔◌, IfSome, IfNone, IsNone};
-ghost use Rattle.commons.specs.Changes.{child_at, Learns, LooksInVain, KeepsOthers};
+ghost use Rattle.std.specs.Prelude.{◌≡◌, ◌⊎◌, ℕ, ◌+◌, ◌^◌, ◌<◌, ◌≤◌, length, ◌↔◌, IfErr, IfSome, IfNone, IsNone, IsOk, None, OnOk};
+ghost use Rattle.commons.specs.Changes.{child_at, Claims, KeepsOthers, Learns, LooksInVain, Refuses};
 ghost use Rattle.std.proofs.Common.{sym};
 ghost use Rattle.commons.specs.PlainLaws.{same_is_later, later_on};
-ghost use Rattle.commons.specs.Plain.{IsPassIn, IsApartIn, IsLaterIn, view_in, area_size_in, log_size_in, log_in};
+ghost use Rattle.commons.specs.Plain.{IsPassIn, IsApartIn, IsLaterIn, view_in, area_size_in, claim_in, log_size_in, log_in};
 
 use crate::contract::{AreaFull, Commons, LogFull};
 use crate::plain::{Account, PlainCommons, PlainPass};
@@ -48,7 +48,26 @@ impl Commons for PlainCommons {
 
     ghost later = { λ c d. IsLaterIn c d };
 
-    fn claim(&mut self, pass: &mut PlainPass, n: u64) -> Result<(), AreaFull> {
+    fn claim(&mut self, pass: &mut PlainPass, n: u64) -> Result<(), AreaFull>
+        requires pass { IsPassIn self.old pass.old }
+        requires first { (view_in self.old pass.old).refused ≡ None }
+        requires bounds { (1 ≤ n) × (n ≤ area_size_in self.old + 1) }
+        ensures later { IsLaterIn self.old self.new }
+        ensures others { KeepsOthers IsPassIn IsApartIn view_in self.old pass.old self.new pass.new }
+        ensures owns { OnOk result ((old : ℕ)
+            × ((view_in self.old pass.old).block_end ≤ old) × (old + n ≤ area_size_in self.old)
+            × Claims (view_in self.old pass.old) old n (view_in self.new pass.new)) }
+        ensures full { IfErr result (λ e. (e.asked ≡ n) × (e.capacity ≡ area_size_in self.old)
+            × (area_size_in self.old < e.old + n)) }
+        ensures refused { IfErr result (λ e.
+            Refuses (view_in self.old pass.old) e.old n (view_in self.new pass.new)) }
+        // On one thread the old word is the claim word itself.
+        ensures claimed { claim_in self.new ≡ claim_in self.old + n }
+        ensures from_claim_word { OnOk result (
+            (view_in self.new pass.new).block_start ≡ claim_in self.old) }
+        ensures found { IfErr result (λ e. e.old ≡ claim_in self.old) }
+        ensures exactly { IsOk result ↔ (claim_in self.old + n ≤ area_size_in self.old) }
+    {
         let old = self.claim;
         let capacity = self.area.len() as u64;
         let mut account = self.accounts[pass.slot];

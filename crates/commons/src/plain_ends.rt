@@ -1,7 +1,8 @@
 //! The beginning and the end of the plain commons.
 ghost use Rattle.std.specs.Prelude.{◌≡◌, ◌+◌, ◌≤◌, IfOk, map};
 ghost use Rattle.std.specs.List.{All, AllPairs};
-ghost use Rattle.commons.specs.Rule.{first_view, IsAreaSize, IsLogSize};
+ghost use Rattle.commons.specs.Views.{IsAreaSize, IsLogSize};
+ghost use Rattle.commons.specs.Rule.{first_view};
 ghost use Rattle.commons.specs.Closing.{HasChildren, IsLeft};
 ghost use Rattle.commons.specs.Plain.{IsPassIn, IsApartIn, view_in, area_size_in, log_size_in};
 

@@ -34,9 +34,9 @@ close-requires-clause-children g c =
     let born = (c.in_ok-child.ensures.born q c.in_ok-place.ensures.names).0 in
     let k = look_keeps _ _ _ c.look.ensures.learns c.look.ensures.none in
     let l = look_keeps _ _ _ c.look-2.ensures.learns c.look-2.ensures.none in
-    let first_pid = ap (λ (v : View). v.pid) c.entry.ensures.same ∙ (l.0 ∙ (k.0 ∙ (ap (λ (v : View). v.pid) p.2.0 ∙ (ap (λ (v : View). v.pid) bears ∙ (c.in_ok-place.ensures.same.1 ∙ (ap (λ (v : View). v.pid) c.in_ok-claim.ensures.owns.2.0 ∙ ap (λ (v : View). v.pid) c.in_ok-commons.ensures.view)))))) in
+    let first_pid = ap (λ (v : View). v.pid) c.entry.ensures.same ∙ (l.0 ∙ (k.0 ∙ (ap (λ (v : View). v.pid) p.2.0 ∙ (ap (λ (v : View). v.pid) bears ∙ (c.in_ok-place.ensures.same.1 ∙ (ap (λ (v : View). v.pid) c.in_ok-claim.ensures.owns.3.0 ∙ ap (λ (v : View). v.pid) c.in_ok-commons.ensures.view)))))) in
     let first_born = ap (λ (v : View). v.born) c.entry.ensures.same ∙ (l.1 ∙ (k.1 ∙ (ap (λ (v : View). v.born) p.2.0 ∙ (ap (λ (v : View). v.born) bears
-    ∙ ap (λ (xs : List ℕ). xs ++ q ∷ []) (c.in_ok-place.ensures.children ∙ (ap (λ (v : View). v.born) c.in_ok-claim.ensures.owns.2.0 ∙ ap (λ (v : View). v.born) c.in_ok-commons.ensures.view)))))) in
+    ∙ ap (λ (xs : List ℕ). xs ++ q ∷ []) (c.in_ok-place.ensures.children ∙ (ap (λ (v : View). v.born) c.in_ok-claim.ensures.owns.3.0 ∙ ap (λ (v : View). v.born) c.in_ok-commons.ensures.view)))))) in
     let child_pid = ap (λ (v : View). v.pid) d.2.0 ∙ (ap (λ (v : View). v.pid) b.2.0 ∙ (ap (λ (v : View). v.pid) a.2.0 ∙ (c.in_ok-sent.ensures.same.0 ∙ ap (λ (v : View). v.pid) born))) in
     let child_born = ap (λ (v : View). v.born) d.2.0 ∙ (ap (λ (v : View). v.born) b.2.0 ∙ (ap (λ (v : View). v.born) a.2.0 ∙ (c.in_ok-sent.ensures.same.1 ∙ ap (λ (v : View). v.born) born))) in
     one_child c.entry.new.self c.entry.new.pass c.post.new.pass _ q (c.in_ok-push-2.ensures.items ∙ ap (λ (xs : List PlainPass). xs ++ c.post.new.pass ∷ []) (c.in_ok-push.ensures.items ∙ ap (λ (xs : List PlainPass). xs ++ c.entry.new.pass ∷ []) c.new-passes.ensures.items)) first_pid first_born child_pid child_born
