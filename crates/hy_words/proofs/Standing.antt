@@ -1,19 +1,21 @@
 -- Laws of what words stand for.
 use Rattle.std.proofs.Common.{◌≡◌, ◌≢◌, ℕ, ℤ, ◌+◌, ◌<◌, ◌≤◌, ◌^◌, List, [], ◌∷◌, length, sym, refl, ap, ◌∙◌, subst, arith}
-use Rattle.std.specs.Prelude.{slice_index, pos, negsuc}
+use Rattle.std.specs.Prelude.{slice_index}
 use Rattle.hy_terms.specs.Labelled.{Labelled, labels_of, IsLabelled, AreLabelled, IsShared, AreShared}
 use Rattle.hy_terms.specs.Labelled as l
 use Rattle.hy_terms.specs.declared.term.Colour.{Colour}
 use Rattle.hy_terms.specs.declared.term.Colour.TheVariants.{Private, Shared}
 use Rattle.hy_words.specs.Lists.{Grown}
-use Rattle.hy_words.specs.Words.{tag_of, number_word, atom_word_of, pid_word_of, tuple_header_of, cons_header_of, IsNumber}
+use Rattle.hy_terms.specs.Range.{IsNumber}
+use Rattle.hy_words.specs.Words.{tag_of, private_tag, number_word, atom_word_of, pid_word_of, nil_word_of, tuple_header_of, cons_header_of}
+use Rattle.hy_words.proofs.Numbers.{number_same}
 use Rattle.hy_words.specs.Stands.{cell_word_of, words_of, MayHold, Stands, PartsStand, of_int, of_atom, of_pid, of_nil, of_cons, of_tuple, no_parts, more_parts}
 
 -- the word of a term is no 0
 pub stands_not_zero : (heap area : List ℕ) (t : Labelled) (w : ℕ) → Stands heap area t w → w ≢ 0
 stands_not_zero heap area t w (of_int n r) e = omega arith
 stands_not_zero heap area t w (of_atom a r) e = omega arith
-stands_not_zero heap area t w (of_pid q) e = omega arith
+stands_not_zero heap area t w (of_pid q r) e = omega arith
 stands_not_zero heap area t w of_nil e = omega arith
 stands_not_zero heap area t w (of_cons Private site place head tail r h q) e = omega arith
 stands_not_zero heap area t w (of_cons Shared site place head tail r h q) e = omega arith
@@ -35,7 +37,7 @@ mutual
   pub stands_grows : (heap area heap' area' : List ℕ) (t : Labelled) (w : ℕ) → Grown heap heap' → Grown area area' → Stands heap area t w → Stands heap' area' t w
   stands_grows heap area heap' area' t w f g (of_int n r) = of_int n r
   stands_grows heap area heap' area' t w f g (of_atom a r) = of_atom a r
-  stands_grows heap area heap' area' t w f g (of_pid q) = of_pid q
+  stands_grows heap area heap' area' t w f g (of_pid q r) = of_pid q r
   stands_grows heap area heap' area' t w f g of_nil = of_nil
   stands_grows heap area heap' area' t w f g (of_cons colour site place head tail r h q) =
       of_cons colour site place head tail r (words_grow colour heap area heap' area' f g place (λ z. cons_header_some site (sym h ∙ z)) ∙ h) (parts_grow heap area heap' area' colour (place + 1) (head ∷ tail ∷ []) f g q)
@@ -68,13 +70,13 @@ stands_atom heap area t w (of_cons colour site place head tail r h q) e = not_ce
 stands_atom heap area t w (of_tuple colour site place parts r o h q) e = not_cell colour place (omega arith)
 stands_atom heap area t w _ e = absurd (omega arith)
 
-pub stands_pid : (heap area : List ℕ) (t : Labelled) (w : ℕ) → Stands heap area t w → tag_of w ≡ 3 → (p : ℕ) × (t ≡ l.Pid p) × (w ≡ pid_word_of p)
-stands_pid heap area t w (of_pid p) e = (p, refl, refl)
+pub stands_pid : (heap area : List ℕ) (t : Labelled) (w : ℕ) → Stands heap area t w → tag_of w ≡ 3 → (p : ℕ) × (t ≡ l.Pid p) × (p < 2 ^ 59) × (w ≡ pid_word_of p)
+stands_pid heap area t w (of_pid p r) e = (p, refl, r, refl)
 stands_pid heap area t w (of_cons colour site place head tail r h q) e = not_cell colour place (omega arith)
 stands_pid heap area t w (of_tuple colour site place parts r o h q) e = not_cell colour place (omega arith)
 stands_pid heap area t w _ e = absurd (omega arith)
 
-pub stands_nil : (heap area : List ℕ) (t : Labelled) (w : ℕ) → Stands heap area t w → tag_of w ≡ 4 → (t ≡ l.Nil) × (w ≡ 4)
+pub stands_nil : (heap area : List ℕ) (t : Labelled) (w : ℕ) → Stands heap area t w → tag_of w ≡ 4 → (t ≡ l.Nil) × (w ≡ nil_word_of)
 stands_nil heap area t w of_nil e = (refl, refl)
 stands_nil heap area t w (of_cons colour site place head tail r h q) e = not_cell colour place (omega arith)
 stands_nil heap area t w (of_tuple colour site place parts r o h q) e = not_cell colour place (omega arith)
@@ -100,12 +102,6 @@ stands_cell heap area t w colour place (of_tuple c site k parts r o h q) e =
     let s = same_cell c colour k place e in
     subst (λ (x : Colour). IsNode heap area x place (l.Tuple site c (labels_of parts))) s.0 (subst (λ (x : ℕ). IsNode heap area c x (l.Tuple site c (labels_of parts))) s.1 (a_tuple site parts r o h q))
 stands_cell heap area t w colour place _ e = let c = (cell_high colour place).0 in absurd (omega arith)
-
-number_same : (m n : ℤ) → IsNumber m → IsNumber n → number_word m ≡ number_word n → m ≡ n
-number_same (pos j) (pos k) r o e = let same : j ≡ k = omega arith in ap pos same
-number_same (negsuc j) (negsuc k) r o e = let same : j ≡ k = omega arith in ap negsuc same
-number_same (pos j) (negsuc k) r o e = absurd (omega arith)
-number_same (negsuc j) (pos k) r o e = absurd (omega arith)
 
 -- what stands for all that a node's parts stand for
 abbrev OneList : (heap area : List ℕ) → Colour → ℕ → List Labelled → Type 0
@@ -146,8 +142,8 @@ mutual
   pub one_term : (heap area : List ℕ) (t u : Labelled) (w : ℕ) → Stands heap area t w → Stands heap area u w → t ≡ u
   one_term heap area t u w (of_int n r) k = let x = stands_number heap area u (number_word n) k (omega arith) in ap (λ (z : ℤ). l.Int z) (number_same n x.0 r x.2 x.3) ∙ sym x.1
   one_term heap area t u w (of_atom a r) k = let x = stands_atom heap area u (atom_word_of a) k (omega arith) in let e = x.3 in let same : a ≡ x.0 = omega arith in ap (λ (z : ℕ). l.Atom z) same ∙ sym x.1
-  one_term heap area t u w (of_pid p) k = let x = stands_pid heap area u (pid_word_of p) k (omega arith) in let e = x.2 in let same : p ≡ x.0 = omega arith in ap (λ (z : ℕ). l.Pid z) same ∙ sym x.1
-  one_term heap area t u w of_nil k = sym (stands_nil heap area u 4 k refl).0
+  one_term heap area t u w (of_pid p r) k = let x = stands_pid heap area u (pid_word_of p) k (omega arith) in let e = x.3 in let same : p ≡ x.0 = omega arith in ap (λ (z : ℕ). l.Pid z) same ∙ sym x.1
+  one_term heap area t u w of_nil k = sym (stands_nil heap area u nil_word_of k refl).0
   one_term heap area t u w (of_cons c site place head tail r h q) k =
       one_cons heap area c site place head tail u r h (λ us qs n. one_list heap area c (place + 1) (head ∷ tail ∷ []) us q qs n) (stands_cell heap area u (cell_word_of c place) c place k refl)
   one_term heap area t u w (of_tuple c site place parts r o h q) k =
@@ -163,10 +159,10 @@ mutual
 
 -- a word that isn't private stands for the same over each heap
 mutual
-  pub stands_over : (heap area other : List ℕ) (t : Labelled) (w : ℕ) → tag_of w ≢ 5 → Stands heap area t w → Stands other area t w
+  pub stands_over : (heap area other : List ℕ) (t : Labelled) (w : ℕ) → tag_of w ≢ private_tag → Stands heap area t w → Stands other area t w
   stands_over heap area other t w n (of_int x r) = of_int x r
   stands_over heap area other t w n (of_atom a r) = of_atom a r
-  stands_over heap area other t w n (of_pid p) = of_pid p
+  stands_over heap area other t w n (of_pid p r) = of_pid p r
   stands_over heap area other t w n of_nil = of_nil
   stands_over heap area other t w n (of_cons Private site place head tail r h q) = absurd (n (omega arith))
   stands_over heap area other t w n (of_tuple Private site place parts r o h q) = absurd (n (omega arith))
@@ -178,17 +174,17 @@ mutual
   parts_over heap area other c place ts e (more_parts Private k t rest may st more) = absurd cc
   parts_over heap area other c place ts e (more_parts Shared k t rest may st more) = more_parts Shared k t rest may (stands_over heap area other t (slice_index area k) may st) (parts_over heap area other Shared (k + 1) rest refl more)
 
-root_shared : (heap area : List ℕ) (t : Labelled) (w : ℕ) → Stands heap area t w → tag_of w ≢ 5 → IsShared t
+pub root_shared : (heap area : List ℕ) (t : Labelled) (w : ℕ) → Stands heap area t w → tag_of w ≢ private_tag → IsShared t
 root_shared heap area t w (of_int n r) o = refl
 root_shared heap area t w (of_atom a r) o = refl
-root_shared heap area t w (of_pid p) o = refl
+root_shared heap area t w (of_pid p r) o = refl
 root_shared heap area t w of_nil o = refl
 root_shared heap area t w (of_cons Private site place head tail r h q) o = absurd (o (omega arith))
 root_shared heap area t w (of_cons Shared site place head tail r h q) o = refl
 root_shared heap area t w (of_tuple Private site place parts r p h q) o = absurd (o (omega arith))
 root_shared heap area t w (of_tuple Shared site place parts r p h q) o = refl
 
-not_private : (c : Colour) (w : ℕ) → MayHold c w → c ≡ Shared → tag_of w ≢ 5
+not_private : (c : Colour) (w : ℕ) → MayHold c w → c ≡ Shared → tag_of w ≢ private_tag
 not_private Private w may e = absurd cc
 not_private Shared w may e = may
 
@@ -197,7 +193,7 @@ mutual
   pub stands_labelled : (heap area : List ℕ) (t : Labelled) (w : ℕ) → Stands heap area t w → IsLabelled t
   stands_labelled heap area t w (of_int n r) = tt
   stands_labelled heap area t w (of_atom a r) = tt
-  stands_labelled heap area t w (of_pid p) = tt
+  stands_labelled heap area t w (of_pid p r) = tt
   stands_labelled heap area t w of_nil = tt
   stands_labelled heap area t w (of_cons c site place head tail r h q) =
       let both = parts_labelled heap area c (place + 1) (head ∷ tail ∷ []) q in

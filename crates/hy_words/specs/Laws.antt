@@ -2,7 +2,7 @@
 use Rattle.std.specs.Prelude.{◌≡◌, ◌≢◌, ℕ, List}
 use Rattle.hy_terms.specs.Labelled.{Labelled, IsLabelled}
 use Rattle.hy_words.specs.Lists.{Grown}
-use Rattle.hy_words.specs.Words.{tag_of}
+use Rattle.hy_words.specs.Words.{tag_of, private_tag}
 use Rattle.hy_words.specs.Stands.{Stands}
 
 -- a larger heap and a larger area stand for the same
@@ -15,7 +15,7 @@ OneWordOneTerm = (heap area : List ℕ) (t u : Labelled) (w : ℕ) → Stands he
 
 -- a word that is not private stands for the same over each heap
 abbrev pub AreaKeepsTerms : Type 0
-AreaKeepsTerms = (heap other area : List ℕ) (t : Labelled) (w : ℕ) → tag_of w ≢ 5 → Stands heap area t w → Stands other area t w
+AreaKeepsTerms = (heap other area : List ℕ) (t : Labelled) (w : ℕ) → tag_of w ≢ private_tag → Stands heap area t w → Stands other area t w
 
 -- no shared node of what a word stands for has a private child
 abbrev pub WordsStandForLabelled : Type 0

@@ -4,7 +4,8 @@ use Rattle.hy_terms.specs.Labelled.{Labelled, labels_of}
 use Rattle.hy_terms.specs.Labelled as l
 use Rattle.hy_terms.specs.declared.term.Colour.{Colour}
 use Rattle.hy_terms.specs.declared.term.Colour.TheVariants.{Private, Shared}
-use Rattle.hy_words.specs.Words.{IsNumber, tag_of, number_word, atom_word_of, pid_word_of, private_word_of, area_word_of, tuple_header_of, cons_header_of}
+use Rattle.hy_terms.specs.Range.{IsNumber}
+use Rattle.hy_words.specs.Words.{tag_of, private_tag, number_word, atom_word_of, pid_word_of, nil_word_of, private_word_of, area_word_of, tuple_header_of, cons_header_of}
 
 -- the word of a cell of this colour
 abbrev pub cell_word_of : Colour → ℕ → ℕ
@@ -19,15 +20,15 @@ words_of Shared heap area = area
 -- a shared cell has no private part
 abbrev pub MayHold : Colour → ℕ → Type 0
 MayHold Private w = Unit {0}
-MayHold Shared w = tag_of w ≢ 5
+MayHold Shared w = tag_of w ≢ private_tag
 
 -- the word stands for the labelled term: a scalar for itself, the word of a cell for the node that its header and parts tell
 mutual
   pub data Stands (heap area : List ℕ) : Labelled → ℕ → Type 0 where
     of_int : (n : ℤ) → IsNumber n → Stands heap area (l.Int n) (number_word n)
     of_atom : (a : ℕ) → a < 2 ^ 32 → Stands heap area (l.Atom a) (atom_word_of a)
-    of_pid : (p : ℕ) → Stands heap area (l.Pid p) (pid_word_of p)
-    of_nil : Stands heap area l.Nil 4
+    of_pid : (p : ℕ) → p < 2 ^ 59 → Stands heap area (l.Pid p) (pid_word_of p)
+    of_nil : Stands heap area l.Nil nil_word_of
     of_cons : (colour : Colour) (site place : ℕ) (head tail : Labelled) → site < 2 ^ 28 → slice_index (words_of colour heap area) place ≡ cons_header_of site
         → PartsStand heap area colour (place + 1) (head ∷ tail ∷ []) → Stands heap area (l.Cons site colour head tail) (cell_word_of colour place)
     of_tuple : (colour : Colour) (site place : ℕ) (parts : List Labelled) → site < 2 ^ 28 → length parts < 2 ^ 28 → slice_index (words_of colour heap area) place ≡ tuple_header_of (length parts) site

@@ -1,4 +1,4 @@
-ghost use Rattle.std.specs.Prelude.{◌≡◌, ◌+◌, ◌-◌, ◌<◌, ◌≤◌, [], ◌∷◌, ◌++◌, length, max, slice_index, OnOk, OnErr, IsOkUnless, Err};
+ghost use Rattle.std.specs.Prelude.{◌≡◌, ◌+◌, ◌-◌, ◌^◌, ◌<◌, ◌≤◌, [], ◌∷◌, ◌++◌, length, max, slice_index, OnOk, OnErr, IsOkUnless, Err};
 
 use std::alloc::Global;
 use std::marker::Model;
@@ -82,10 +82,19 @@ impl Heap {
         place
     }
 
+    /// How many words there are.
+    pub fn len(&self) -> u64
+        ensures len { result ≡ length self.now.words }
+        ensures few { length self.now.words + self.now.spare ≤ self.now.limit }
+    {
+        self.words.len() as u64
+    }
+
     /// The word at this place.
     pub fn word(&self, place: u64) -> u64
         requires { place < length self.now.words }
-        ensures { result ≡ slice_index self.now.words place }
+        ensures word { result ≡ slice_index self.now.words place }
+        ensures few { length self.now.words < 2 ^ 64 }
     {
         self.words[place as usize]
     }

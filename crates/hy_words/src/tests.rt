@@ -20,6 +20,33 @@ fn words_of_the_worked_rows(rt: HostRuntime) {
 }
 
 #[test]
+fn readers_of_the_worked_rows(rt: HostRuntime) {
+    assert_eq!(rt; number(17), 1);
+    assert_eq!(rt; number(18_446_744_073_709_551_601), -1);
+    assert_eq!(rt; number(9_223_372_036_854_775_809), -576_460_752_303_423_488);
+    assert_eq!(rt; size(17_179_869_223), 2);
+    assert_eq!(rt; site(17_179_869_223), 1);
+    assert_eq!(rt; site(17_179_869_192), 1);
+    assert_eq!(rt; following(17_179_869_223), 2);
+    assert_eq!(rt; following(17_179_869_192), 2);
+    assert_eq!(rt; following(57), 3);
+    assert_eq!(rt; tag(17_179_869_223), tags::TUPLE);
+    assert_eq!(rt; tag(57), tags::SEND);
+}
+
+#[test]
+fn a_list_keeps_its_words(rt: HostRuntime) -> Result<(), Fail> {
+    let mut words = Vec::new(rt.alloc());
+    words.push(int_word(7))?;
+    words.push(nil_word())?;
+    let list = WordList::from_vec(words);
+    assert_eq!(rt; list.as_slice().len(), 2);
+    assert_eq!(rt; list.as_slice()[0], 113);
+    assert_eq!(rt; list.as_slice()[1], 4);
+    Ok(())
+}
+
+#[test]
 fn a_heap_fills_to_its_limit(rt: HostRuntime) -> Result<(), Fail> {
     let mut heap = Heap::new(rt.alloc(), 3);
     heap.reserve(3)?;
@@ -36,5 +63,6 @@ fn a_heap_fills_to_its_limit(rt: HostRuntime) -> Result<(), Fail> {
     }
     heap.reserve(1)?;
     assert_eq!(rt; heap.word(first), 113);
+    assert_eq!(rt; heap.len(), 2);
     Ok(())
 }

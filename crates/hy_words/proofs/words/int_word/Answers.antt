@@ -1,4 +1,4 @@
-use Rattle.std.proofs.Common.{◌≡◌, ◌+◌, ◌*◌, rules, subst, sym}
+use Rattle.std.proofs.Common.{◌≡◌, rules, subst, sym}
 use Rattle.hy_terms.specs.Labelled as l
 use Rattle.hy_words.specs.Words.{number_word}
 use Rattle.hy_words.specs.Stands.{Stands, of_int}
@@ -6,5 +6,5 @@ use Rattle.hy_words.proofs.words.int_word.Goals as goal
 
 pub returns-clause-stands : goal.returns-clause-stands
 returns-clause-stands c =
-    let e : c.if-n-lt0.payload * 16 + 1 ≡ number_word c.args.n = search rules in
+    let e : c.word.result ≡ number_word c.args.n = search rules in
     λ heap area. subst (Stands heap area (l.Int c.args.n)) (sym e) (of_int c.args.n c.requires)
