@@ -121,7 +121,7 @@ put_shape a v word h = ⊎_elim (λ (x : IsHeader word). inl x) (λ t. ⊎_elim 
 -- the cell of an area word that may be put
 pub put_names : (a : ℕ) (v : View) (word : ℕ) (area : List ℕ) → Fits a v area → MayPut a v word → tag_of word ≡ 6 → IsTermCell area (payload_of word)
 put_names a v word area f h six = ⊎_elim (λ (x : IsHeader word). let t = x.0 in absurd (omega arith))
-    (λ t. ⊎_elim (λ (x : IsScalar word). let y = x.1 in absurd (omega arith)) (λ u. let at : u.0 ≡ payload_of word = sym (ap payload_of u.1 ∙ area_word_place u.0) in subst (λ (x : ℕ). IsTermCell area x) at (f.whole u.0 u.2, u.3 area f)) t) h
+    (λ t. ⊎_elim (λ (x : IsScalar word). let y = x.1 in absurd (omega arith)) (λ u. let at : u.0 ≡ payload_of word = sym (ap payload_of u.1 ∙ area_word_place u.0) in subst (λ (x : ℕ). IsTermCell area x) at (f.whole u.0 u.2.0, u.2.1 area f)) t) h
 
 -- a word is put into a closed area
 module _ (area : List ℕ) (p word : ℕ) (closed : IsClosed area) (shape : IsHeader word ⊎ IsValue word) (names : tag_of word ≡ 6 → IsTermCell area (payload_of word)) (inside : p < length area) (free : slice_index area p ≡ 0) where

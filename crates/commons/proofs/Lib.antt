@@ -17,6 +17,6 @@ pub mod PlainOpens
 pub mod PlainCloses
 pub mod Later
 pub mod Rowed
+pub mod Printing
 mod Families
 pub mod Readings
-mod Forks

@@ -14,8 +14,9 @@ use Rattle.commons.specs.declared.plain.PlainCommons.{PlainCommons}
 use Rattle.commons.specs.declared.plain.PlainPass.{PlainPass}
 use Rattle.commons.specs.Log.{own_places}
 use Rattle.commons.specs.Views.{IsAreaSize, IsLogSize}
-use Rattle.commons.specs.Changes.{KeepsOthers, IsApartFrom, IsChildOf, Bears}
-use Rattle.commons.specs.Rule.{At, IsKept, bore, born_of, gave_up}
+use Rattle.commons.specs.Changes.{KeepsOthers, IsApartFrom, IsChildOf, Bears, GivesUp}
+use Rattle.commons.specs.Rule.{At, IsKept}
+use Rattle.commons.specs.Steps.{bore, born_of, gave_up}
 use Rattle.commons.specs.Plain.{children_of, shown, no_account, account_in, shown_in, view_in, views_in, area_size_in, log_size_in, AreAccounts, IsPassIn, IsApartIn}
 use Rattle.commons.proofs.Births.{births_kept}
 use Rattle.commons.proofs.Cells.{grown_same}
@@ -26,7 +27,7 @@ use Rattle.commons.proofs.PlainKeeps.{here, a_pass, stays}
 
 -- no memory: the parent names no child
 pub gave_up_step : (c d : PlainCommons) (p : PlainPass) (x : Account) → IsPassIn c p → d.log_size ≡ c.log_size → d.area.items ≡ c.area.items → d.log.items ≡ c.log.items → d.claim ≡ c.claim → c.log_size ≤ vec_capacity d.log → d.accounts.items ≡ set c.accounts.items p.slot x
-    → x ≡ record (account_in c p) { unborn = None } → KeepsOthers IsPassIn IsApartIn view_in c p d p × Bears (view_in c p) (view_in c p).born (view_in d p)
+    → x ≡ record (account_in c p) { unborn = None } → KeepsOthers IsPassIn IsApartIn view_in c p d p × GivesUp (view_in c p) (view_in d p)
 gave_up_step c d p x h size area log claim room accounts is =
     let v : View = view_in c p in
     let kept = gave_up_kept (area_size_in c) (log_size_in c) c.claim p.slot c.log.items c.area.items (views_in c) v h.kept (here c p h) in
@@ -40,7 +41,7 @@ child_account y q = record { pid = q; parent = Some y.pid; known = y.known; unbo
 -- a child is born: its account stands behind the others
 pub birth_step : (c d : PlainCommons) (p child : PlainPass) (q : ℕ) → IsPassIn c p → (view_in c p).unborn ≡ Some q → d.log_size ≡ c.log_size → d.area.items ≡ c.area.items → d.log.items ≡ c.log.items → d.claim ≡ c.claim → c.log_size ≤ vec_capacity d.log
     → d.accounts.items ≡ set c.accounts.items p.slot (record (account_in c p) { unborn = None }) ++ child_account (account_in c p) q ∷ [] → child.slot ≡ length c.accounts.items → child.pid ≡ q
-    → KeepsOthers IsPassIn IsApartIn view_in c p d p × (IsPassIn d child × IsApartFrom IsPassIn IsApartIn c p p child) × IsChildOf (view_in c p) q (view_in d child) × Bears (view_in c p) ((view_in c p).born ++ q ∷ []) (view_in d p)
+    → KeepsOthers IsPassIn IsApartIn view_in c p d p × (IsPassIn d child × IsApartFrom IsPassIn IsApartIn c p p child) × IsChildOf (view_in c p) q (view_in d child) × Bears (view_in c p) q (view_in d p)
 birth_step c d p child q h names size area log claim room accounts slot pid =
     let xs : List Account = c.accounts.items in
     let words : List ℕ = c.log.items in
@@ -123,12 +124,12 @@ with_accounts c xs = record c { accounts = xs }
 
 -- the same where the accounts are what a push left
 pub gave_up_with : (c : PlainCommons) (p : PlainPass) (xs : Vec Account) (y : Account) → IsPassIn c p → account_in c p ≡ y → xs.items ≡ set c.accounts.items p.slot (record y { unborn = None })
-    → KeepsOthers IsPassIn IsApartIn view_in c p (with_accounts c xs) p × Bears (view_in c p) (view_in c p).born (view_in (with_accounts c xs) p)
+    → KeepsOthers IsPassIn IsApartIn view_in c p (with_accounts c xs) p × GivesUp (view_in c p) (view_in (with_accounts c xs) p)
 gave_up_with c p xs y h is items = gave_up_step c (with_accounts c xs) p (record y { unborn = None }) h refl refl refl refl h.reserved items (ap (λ (z : Account). record z { unborn = None }) (sym is))
 
 pub birth_with : (c : PlainCommons) (p : PlainPass) (xs : Vec Account) (y : Account) (pid slot q : ℕ) → IsPassIn c p → account_in c p ≡ y → (view_in c p).unborn ≡ Some q → pid ≡ q → slot ≡ length c.accounts.items → xs.items ≡ set c.accounts.items p.slot (record y { unborn = None }) ++ child_account y pid ∷ []
     → KeepsOthers IsPassIn IsApartIn view_in c p (with_accounts c xs) p × (IsPassIn (with_accounts c xs) (record { slot = slot; pid = pid }) × IsApartFrom IsPassIn IsApartIn c p p (record { slot = slot; pid = pid }))
-    × IsChildOf (view_in c p) q (view_in (with_accounts c xs) (record { slot = slot; pid = pid })) × Bears (view_in c p) ((view_in c p).born ++ q ∷ []) (view_in (with_accounts c xs) p)
+    × IsChildOf (view_in c p) q (view_in (with_accounts c xs) (record { slot = slot; pid = pid })) × Bears (view_in c p) q (view_in (with_accounts c xs) p)
 birth_with c p xs y pid slot q h is names named place items =
     birth_step c (with_accounts c xs) p (record { slot = slot; pid = pid }) q h names refl refl refl refl h.reserved
     (items ∙ ap (λ (t : Account × ℕ). set c.accounts.items p.slot (record t.0 { unborn = None }) ++ child_account t.0 t.1 ∷ []) (λ i. (sym is i, named i))) place named

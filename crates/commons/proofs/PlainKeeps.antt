@@ -1,17 +1,15 @@
 -- The plain form keeps the rule, and leaves other passes as they were.
-use Rattle.std.proofs.Common.{◌≡◌, ◌≢◌, ℕ, zero, suc, ◌+◌, ◌*◌, ◌^◌, ◌<◌, ◌≤◌, List, [], ◌∷◌, length, get_or, set, map, length-set, get_or-set_other, get_or-set_same, sym, refl, ap, ◌∙◌, subst, arith, le_refl, le_trans, lit≤, Bool, true, false, append-nil}
-use Rattle.std.specs.Prelude.{if◌then◌else◌, ◌==◌, vec_capacity}
+use Rattle.std.proofs.Common.{◌≡◌, ◌≢◌, ℕ, ◌^◌, ◌<◌, ◌≤◌, List, [], length, get_or, set, map, length-set, get_or-set_other, get_or-set_same, sym, refl, ap, ◌∙◌, subst, arith, append-nil}
+use Rattle.std.specs.Prelude.{vec_capacity}
 use Rattle.std.proofs.lemmas.List.{map-set, length-take-le}
-use Rattle.std.proofs.lemmas.Nat.{mul-le}
-use mathlib.Core.Option.{some-injective, some-ne-none}
-use Rattle.hy_words.specs.Lists.{Grown, StartsWith, total}
+use Rattle.hy_words.specs.Lists.{Grown, StartsWith}
 use Rattle.commons.specs.declared.view.View.{View}
 use Rattle.commons.specs.declared.plain.Account.{Account}
 use Rattle.commons.specs.declared.plain.PlainCommons.{PlainCommons}
 use Rattle.commons.specs.declared.plain.PlainPass.{PlainPass}
 use Rattle.commons.specs.Views.{Fits, IsAreaSize, IsLogSize}
 use Rattle.commons.specs.Changes.{KeepsOthers}
-use Rattle.commons.specs.Rule.{At, IsKept, refusals, written}
+use Rattle.commons.specs.Rule.{At, IsKept}
 use Rattle.commons.specs.Plain.{children_of, shown, no_account, account_in, shown_in, view_in, views_in, area_size_in, log_size_in, AreAccounts, IsPassIn, IsApartIn}
 use Rattle.commons.proofs.Cells.{grown_same}
 use Rattle.commons.proofs.Counts.{claims_low, one_of, written_le}

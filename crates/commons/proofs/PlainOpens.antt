@@ -11,7 +11,8 @@ use Rattle.commons.specs.declared.plain.PlainPass.{PlainPass}
 use Rattle.commons.specs.Area.{IsClosed}
 use Rattle.commons.specs.Log.{IsLog}
 use Rattle.commons.specs.Views.{IsAreaSize, IsLogSize}
-use Rattle.commons.specs.Rule.{At, IsKept, IsAccount, written, first_view}
+use Rattle.commons.specs.Rule.{At, IsKept, IsAccount, written}
+use Rattle.commons.specs.Steps.{first_view}
 use Rattle.commons.specs.Plain.{IsPassIn, no_account, AreAccounts, shown, views_in}
 use Rattle.commons.proofs.Accounts.{nth}
 use Rattle.commons.proofs.PlainKeeps.{a_pass}

@@ -1,6 +1,7 @@
 pub mod Area
 pub mod Log
 pub mod Views
+pub mod Steps
 pub mod Changes
 pub mod Rule
 pub mod Closing

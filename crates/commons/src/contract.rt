@@ -1,8 +1,9 @@
 ghost use Rattle.std.specs.Prelude.{◌≡◌, ◌≢◌, ℕ, ◌+◌, ◌<◌, ◌≤◌, List, [], ◌∷◌, ◌++◌, length, slice_index, IfOk, IfErr, OnOk, OnErr, IfSome, IfNone, IsSome, Some, None};
 ghost use Rattle.commons.specs.declared.view.View.{View};
 ghost use Rattle.hy_words.specs.Words.{area_word_of};
-ghost use Rattle.commons.specs.Views.{KnowsPlace, MayPut, IsSound};
-ghost use Rattle.commons.specs.Changes.{Claims, Refuses, Puts, Reads, Learns, MayAppend, Appends, LooksInVain, IsChildOf, Bears, longer, KeepsOthers, StaysApart, IsApartFrom};
+ghost use Rattle.commons.specs.Views.{KnowsPlace, MayPut, MayAppend, IsSound};
+ghost use Rattle.commons.specs.Steps.{longer};
+ghost use Rattle.commons.specs.Changes.{Claims, Refuses, Puts, Reads, Learns, Appends, LooksInVain, IsChildOf, Bears, GivesUp, KeepsOthers, StaysApart, IsApartFrom};
 
 use hy_terms::Memory;
 
@@ -118,8 +119,8 @@ pub trait Commons {
         ensures others { KeepsOthers is_pass apart view self.old pass.old self.new pass.new }
         ensures child { IfOk result (λ child. is_pass self.new child × IsApartFrom is_pass apart self.old pass.old pass.new child) }
         ensures born { IfOk result (λ child. (q : ℕ) → (view self.old pass.old).unborn ≡ Some q → IsChildOf (view self.old pass.old) q (view self.new child)) }
-        ensures bears { OnOk result ((q : ℕ) → (view self.old pass.old).unborn ≡ Some q → Bears (view self.old pass.old) ((view self.old pass.old).born ++ q ∷ []) (view self.new pass.new)) }
-        ensures memory { OnErr result (Bears (view self.old pass.old) (view self.old pass.old).born (view self.new pass.new)) };
+        ensures bears { OnOk result ((q : ℕ) → (view self.old pass.old).unborn ≡ Some q → Bears (view self.old pass.old) q (view self.new pass.new)) }
+        ensures memory { OnErr result (GivesUp (view self.old pass.old) (view self.new pass.new)) };
 
     /// Tells `to` what log words `from` knows.
     fn tell(&mut self, from: &mut Self::Pass, to: &mut Self::Pass) -> Result<(), Memory>

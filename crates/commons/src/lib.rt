@@ -11,6 +11,6 @@ mod tests;
 mod view;
 
 pub use contract::{AreaFull, Commons, Link, LogFull};
-pub use entries::{put_print, put_send};
+pub use entries::{put_print, put_send, put_spawn, put_words};
 pub use plain::{Final, PlainCommons, PlainPass};
 pub use view::{Refusal, View};

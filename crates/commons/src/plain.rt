@@ -1,5 +1,6 @@
 //! The commons over vectors, for one thread.
 use crate::view::Refusal;
+use hy_words::WordList;
 
 /// What the commons keep of one pass.
 #[derive(Clone, Copy)]
@@ -38,7 +39,7 @@ pub struct PlainPass {
 /// weren't written, and the claim word.
 #[derive(Drop)]
 pub struct Final {
-    pub log: Vec<u64>,
-    pub area: Vec<u64>,
+    pub log: WordList,
+    pub area: WordList,
     pub claimed: u64,
 }

@@ -9,10 +9,8 @@ use crate::contract::{AreaFull, Commons, LogFull};
 use crate::plain::{Account, PlainCommons, PlainPass};
 use crate::view::Refusal;
 use hy_terms::Memory;
+use hy_words::tags::SPAWN;
 use hy_words::{payload, tag};
-
-/// The tag of the header of a spawn entry.
-const SPAWN: u8 = 10;
 
 // The child that a spawn entry at this place names.
 fn child_of(header: u64, place: u64) -> Option<u64>

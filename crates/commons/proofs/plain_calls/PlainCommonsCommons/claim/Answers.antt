@@ -1,7 +1,7 @@
 use Rattle.std.proofs.Common.{◌+◌, ◌<◌, ◌≤◌, ap, arith, length, refl}
 use Rattle.commons.specs.declared.plain.Account.{Account}
 use Rattle.commons.proofs.PlainKeeps.{the_account, low_claim, low_requests, block_below}
-use Rattle.commons.proofs.PlainSteps.{claim_step, denial_step}
+use Rattle.commons.proofs.PlainSteps.{claim_step, refusal_step}
 use Rattle.commons.proofs.plain_calls.PlainCommonsCommons.claim.Goals.{then-old-capacity-via-then-old-capacity, then-old-capacity-via-else-old-capacity+then-n-capacity}
 use Rattle.commons.proofs.plain_calls.PlainCommonsCommons.claim.Goals as goal
 
@@ -18,10 +18,10 @@ pub overflow_add-self : goal.overflow_add-self
 overflow_add-self c = let a = low_claim _ _ c.requires.pass in let l = c.requires.pass.area_size.1 in let n = c.requires.bounds in omega arith
 
 pub returns-then-old-capacity-clause-others : goal.returns-then-old-capacity-clause-others
-returns-then-old-capacity-clause-others c = (denial_step _ _ c.args.n _ c.requires.pass (the_account _ _ _ c.requires.pass c.index-account.ensures) c.requires.first c.requires.bounds.1).0
+returns-then-old-capacity-clause-others c = (refusal_step _ _ c.args.n _ c.requires.pass (the_account _ _ _ c.requires.pass c.index-account.ensures) c.requires.first c.requires.bounds.1).0
 
 pub returns-then-old-capacity-clause-refused : goal.returns-then-old-capacity-clause-refused
-returns-then-old-capacity-clause-refused c = (denial_step _ _ c.args.n _ c.requires.pass (the_account _ _ _ c.requires.pass c.index-account.ensures) c.requires.first c.requires.bounds.1).1
+returns-then-old-capacity-clause-refused c = (refusal_step _ _ c.args.n _ c.requires.pass (the_account _ _ _ c.requires.pass c.index-account.ensures) c.requires.first c.requires.bounds.1).1
 
 pub returns-clause-others : goal.returns-clause-others
 returns-clause-others c =
