@@ -8,10 +8,10 @@ use crate::answer::{StepFault, UNEXPECTED};
 use crate::interning::number_of;
 use crate::number::arity;
 use crate::pop::{pop_atom, pop_names};
-use crate::stack::Stack;
 use crate::state::{State, Value};
 use hy_core::{Expr, FunName, RefusalKind, Sign, Tables, Token};
 use hy_terms::Atoms;
+use stack::Stack;
 use std::alloc::Global;
 use std::mem::replace;
 

@@ -12,10 +12,10 @@ use crate::expr_forms::{
     build_primop, build_receive, build_try, build_tuple, build_values,
 };
 use crate::join::{build_join, build_pattern_join};
-use crate::stack::Stack;
 use crate::state::{Form, Part, Value};
 use hy_core::Tables;
 use sqlite_items::Items;
+use stack::Stack;
 use std::alloc::Global;
 
 fn build_list(alloc: Global, part: Part, values: &mut Stack<Value>) -> Result<(), StepFault>

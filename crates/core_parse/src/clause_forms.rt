@@ -7,10 +7,10 @@ use crate::pop::{
     pop_clauses, pop_expr, pop_functions, pop_head, pop_name, pop_pattern, pop_patterns,
     pop_variable, pop_variables,
 };
-use crate::stack::Stack;
 use crate::state::{Head, Value};
 use hy_core::{Clause, Expr, FunName, Function, Pattern, Tables};
 use sqlite_items::{Boxed, Items};
+use stack::Stack;
 use std::alloc::Global;
 
 pub fn build_one_variable(alloc: Global, values: &mut Stack<Value>) -> Result<(), StepFault>

@@ -4,10 +4,10 @@ ghost use Rattle.core_parse.specs.Steps.{GivesWhere};
 
 use crate::answer::StepFault;
 use crate::pop::{pop_atom, pop_clauses, pop_expr, pop_exprs, pop_functions, pop_variables};
-use crate::stack::Stack;
 use crate::state::Value;
 use hy_core::Expr;
 use sqlite_items::{Boxed, Items};
+use stack::Stack;
 use std::alloc::Global;
 
 pub fn build_tuple(values: &mut Stack<Value>) -> Result<(), StepFault>

@@ -7,10 +7,10 @@ ghost use Rattle.hy_core.specs.Patterns.{joined_pattern};
 
 use crate::answer::StepFault;
 use crate::pop::{pop_expr, pop_exprs, pop_pattern, pop_patterns};
-use crate::stack::Stack;
 use crate::state::Value;
 use hy_core::{Expr, Pattern};
 use sqlite_items::{Boxed, Items};
+use stack::Stack;
 use std::alloc::{AllocError, Global};
 
 fn join(alloc: Global, heads: Items<Expr>, tail: Expr) -> Result<Expr, AllocError>

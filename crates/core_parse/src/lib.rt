@@ -25,7 +25,6 @@ mod read_tests;
 mod run;
 mod settle;
 mod several;
-mod stack;
 mod state;
 mod step;
 

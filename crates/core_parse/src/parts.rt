@@ -8,10 +8,10 @@ use crate::join::{list_of, pattern_list_of};
 use crate::pop::{
     pop_atom, pop_expr, pop_exprs, pop_pattern, pop_patterns, pop_variable, pop_variables,
 };
-use crate::stack::Stack;
 use crate::state::{Part, Value};
 use hy_core::{Expr, Pattern};
 use sqlite_items::Items;
+use stack::Stack;
 use std::alloc::{AllocError, Global};
 
 /// Puts the empty list of such parts on the stack.

@@ -3,10 +3,10 @@ ghost use Rattle.core_parse.specs.Tops.{top_expr, top_exprs, top_pattern, top_pa
 ghost use Rattle.core_parse.specs.Steps.{GivesTop};
 
 use crate::answer::{StepFault, UNEXPECTED};
-use crate::stack::Stack;
 use crate::state::{Head, Value};
 use hy_core::{Clause, Expr, FunName, Function, Pattern};
 use sqlite_items::Items;
+use stack::Stack;
 use std::alloc::AllocError;
 
 /// Takes an `Expr` off the stack.

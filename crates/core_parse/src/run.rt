@@ -7,11 +7,11 @@ ghost use Rattle.core_parse.specs.Steps.{GivesModule};
 use crate::answer::{RefusedToken, StepFault, TokenAnswer, UNEXPECTED};
 use crate::pop::{pop_atom, pop_functions, pop_names};
 use crate::settle::next_goal;
-use crate::stack::Stack;
 use crate::state::{Goal, State, Value};
 use crate::step::take;
 use hy_core::{Lexeme, Module, RefusalKind, Tables, Token, Word};
 use hy_terms::Atoms;
+use stack::Stack;
 use std::alloc::{AllocError, Global};
 
 /// A module is to be read, and nothing was read.

@@ -1,6 +1,6 @@
-use crate::stack::Stack;
 use hy_core::{Clause, Expr, FunName, Function, Pattern, Tables, Word};
 use sqlite_items::Items;
+use stack::Stack;
 
 /// The deepest level that is read.
 pub const LEVELS: u32 = 400;

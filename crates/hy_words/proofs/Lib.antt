@@ -1,2 +1,6 @@
+pub mod FieldLemmas
+pub mod HeightLemmas
+pub mod Naming
 pub mod Numbers
+pub mod Scalars
 pub mod Standing

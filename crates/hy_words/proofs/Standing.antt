@@ -26,10 +26,10 @@ words_grow : (colour : Colour) (heap area heap' area' : List ℕ) → Grown heap
 words_grow Private heap area heap' area' f g = f
 words_grow Shared heap area heap' area' f g = g
 
-cons_header_some : (site : ℕ) → cons_header_of site ≢ 0
+pub cons_header_some : (site : ℕ) → cons_header_of site ≢ 0
 cons_header_some site e = omega arith
 
-tuple_header_some : (size site : ℕ) → tuple_header_of size site ≢ 0
+pub tuple_header_some : (size site : ℕ) → tuple_header_of size site ≢ 0
 tuple_header_some size site e = omega arith
 
 -- a larger heap and a larger area stand for the same
@@ -81,6 +81,20 @@ stands_nil heap area t w of_nil e = (refl, refl)
 stands_nil heap area t w (of_cons colour site place head tail r h q) e = not_cell colour place (omega arith)
 stands_nil heap area t w (of_tuple colour site place parts r o h q) e = not_cell colour place (omega arith)
 stands_nil heap area t w _ e = absurd (omega arith)
+
+-- a number, an atom, a pid or nil
+abbrev IsLeaf : Labelled → Type 0
+IsLeaf (l.Cons site colour head tail) = ⊥
+IsLeaf (l.Tuple site colour parts) = ⊥
+IsLeaf _ = Unit {0}
+
+pub leaf_low : (heap area : List ℕ) (t : Labelled) (w : ℕ) → Stands heap area t w → IsLeaf t → tag_of w < private_tag
+leaf_low heap area t w (of_int n r) leaf = omega arith
+leaf_low heap area t w (of_atom a r) leaf = omega arith
+leaf_low heap area t w (of_pid p r) leaf = omega arith
+leaf_low heap area t w of_nil leaf = omega arith
+leaf_low heap area t w (of_cons colour site place head tail r h q) leaf = absurd leaf
+leaf_low heap area t w (of_tuple colour site place parts r o h q) leaf = absurd leaf
 
 -- the node that a cell of this colour at this place tells
 pub data IsNode (heap area : List ℕ) (colour : Colour) (place : ℕ) : Labelled → Type 0 where

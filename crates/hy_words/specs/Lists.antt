@@ -3,7 +3,8 @@ use Rattle.std.specs.Prelude.{◌≡◌, ◌≢◌, ℕ, ◌+◌, ◌<◌, List,
 
 -- each word that was written stays; 0 is a word that was not written
 abbrev pub Grown : List ℕ → List ℕ → Type 0
-Grown before after = (place : ℕ) → slice_index before place ≢ 0 → slice_index after place ≡ slice_index before place
+Grown before after =
+    (place : ℕ) → slice_index before place ≢ 0 → slice_index after place ≡ slice_index before place
 
 -- the whole list begins with the first
 abbrev pub StartsWith : List ℕ → List ℕ → Type 0

@@ -22,20 +22,28 @@ abbrev pub MayHold : Colour → ℕ → Type 0
 MayHold Private w = Unit {0}
 MayHold Shared w = tag_of w ≢ private_tag
 
--- the word stands for the labelled term: a scalar for itself, the word of a cell for the node that its header and parts tell
+-- the word stands for the labelled term: a scalar for itself, the word of a cell for the node that
+-- its header and parts tell
 mutual
   pub data Stands (heap area : List ℕ) : Labelled → ℕ → Type 0 where
     of_int : (n : ℤ) → IsNumber n → Stands heap area (l.Int n) (number_word n)
     of_atom : (a : ℕ) → a < 2 ^ 32 → Stands heap area (l.Atom a) (atom_word_of a)
     of_pid : (p : ℕ) → p < 2 ^ 59 → Stands heap area (l.Pid p) (pid_word_of p)
     of_nil : Stands heap area l.Nil nil_word_of
-    of_cons : (colour : Colour) (site place : ℕ) (head tail : Labelled) → site < 2 ^ 28 → slice_index (words_of colour heap area) place ≡ cons_header_of site
-        → PartsStand heap area colour (place + 1) (head ∷ tail ∷ []) → Stands heap area (l.Cons site colour head tail) (cell_word_of colour place)
-    of_tuple : (colour : Colour) (site place : ℕ) (parts : List Labelled) → site < 2 ^ 28 → length parts < 2 ^ 28 → slice_index (words_of colour heap area) place ≡ tuple_header_of (length parts) site
-        → PartsStand heap area colour (place + 1) parts → Stands heap area (l.Tuple site colour (labels_of parts)) (cell_word_of colour place)
+    of_cons : (colour : Colour) (site place : ℕ) (head tail : Labelled) → site < 2 ^ 28
+        → slice_index (words_of colour heap area) place ≡ cons_header_of site
+        → PartsStand heap area colour (place + 1) (head ∷ tail ∷ [])
+        → Stands heap area (l.Cons site colour head tail) (cell_word_of colour place)
+    of_tuple : (colour : Colour) (site place : ℕ) (parts : List Labelled)
+        → site < 2 ^ 28 → length parts < 2 ^ 28
+        → slice_index (words_of colour heap area) place ≡ tuple_header_of (length parts) site
+        → PartsStand heap area colour (place + 1) parts
+        → Stands heap area (l.Tuple site colour (labels_of parts)) (cell_word_of colour place)
 
   -- the words of a cell of this colour, from this place on, stand for the parts in order
   pub data PartsStand (heap area : List ℕ) : Colour → ℕ → List Labelled → Type 0 where
     no_parts : (colour : Colour) (place : ℕ) → PartsStand heap area colour place []
-    more_parts : (colour : Colour) (place : ℕ) (t : Labelled) (ts : List Labelled) → MayHold colour (slice_index (words_of colour heap area) place) → Stands heap area t (slice_index (words_of colour heap area) place)
+    more_parts : (colour : Colour) (place : ℕ) (t : Labelled) (ts : List Labelled)
+        → MayHold colour (slice_index (words_of colour heap area) place)
+        → Stands heap area t (slice_index (words_of colour heap area) place)
         → PartsStand heap area colour (place + 1) ts → PartsStand heap area colour place (t ∷ ts)

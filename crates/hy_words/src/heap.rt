@@ -7,7 +7,7 @@ use thiserror::Error;
 /// Why room in a heap was not reserved.
 #[derive(Debug, Drop, Error)]
 pub enum HeapFault {
-    /// The heap has `used` words, `asked` more were asked for, and no more than `limit` may stand in it.
+    /// The heap has `used` words, `asked` more were asked for, and it may have no more than `limit`.
     #[error("HeapFull")]
     HeapFull { used: u64, asked: u64, limit: u64 },
     #[error("Memory")]
@@ -30,7 +30,8 @@ impl Model for Heap {
 
     ghost view = { λ h. record { words = h.words.items; limit = h.limit; spare = h.spare } };
 
-    ghost invariant = { λ h. (vec_len h.words + h.spare ≤ vec_capacity h.words) × (vec_len h.words + h.spare ≤ h.limit) };
+    ghost invariant = { λ h. (vec_len h.words + h.spare ≤ vec_capacity h.words)
+        × (vec_len h.words + h.spare ≤ h.limit) };
 }
 
 impl Heap {
@@ -49,8 +50,10 @@ impl Heap {
     pub fn reserve(&mut self, n: u64) -> Result<(), HeapFault>
         ensures ok { OnOk result (self.new ≡ record self.old { spare = max self.old.spare n }) }
         ensures err { OnErr result (self.new ≡ self.old) }
-        ensures full { self.old.limit < length self.old.words + n → result ≡ Err (HeapFault.HeapFull (length self.old.words) n self.old.limit) }
-        ensures room { length self.old.words + n ≤ self.old.limit → IsOkUnless result HeapFault.Memory }
+        ensures full { self.old.limit < length self.old.words + n
+            → result ≡ Err (HeapFault.HeapFull (length self.old.words) n self.old.limit) }
+        ensures room { length self.old.words + n ≤ self.old.limit
+            → IsOkUnless result HeapFault.Memory }
     {
         if n <= self.spare {
             return Ok(());
@@ -74,7 +77,10 @@ impl Heap {
     pub fn push(&mut self, word: u64) -> u64
         requires { 0 < self.old.spare }
         ensures place { result ≡ length self.old.words }
-        ensures pushed { self.new ≡ record self.old { words = self.old.words ++ word ∷ []; spare = self.old.spare - 1 } }
+        ensures pushed { self.new ≡ record self.old {
+          words = self.old.words ++ word ∷ [];
+          spare = self.old.spare - 1;
+        } }
     {
         let place = self.words.len() as u64;
         self.words.push_reserved(word);

@@ -1,6 +1,7 @@
 //! Words and their tags, headers of cells, and the private heap of a process.
 #![tactic(auto)]
 
+mod cell_kind;
 mod heap;
 mod kind;
 mod laws;
@@ -10,10 +11,13 @@ mod tests;
 mod word_list;
 mod words;
 
+pub use cell_kind::CellKind;
 pub use heap::{Heap, HeapFault};
 pub use kind::{Entry, Kind};
 pub use laws::{
-    area_keeps_terms, growing_keeps_terms, one_word_one_term, words_stand_for_labelled,
+    area_keeps_terms, growing_keeps_names, growing_keeps_terms, headers_by_tag, heights_by_fields,
+    one_word_one_term, scalars_stand, terms_are_low, wider_kind_is_named, words_stand_for_labelled,
+    words_that_name,
 };
 pub use word_list::WordList;
 pub use words::{

@@ -66,3 +66,17 @@ fn a_heap_fills_to_its_limit(rt: HostRuntime) -> Result<(), Fail> {
     assert_eq!(rt; heap.len(), 2);
     Ok(())
 }
+
+// Any place is one of a cell.
+struct EachPlace;
+
+impl CellKind for EachPlace {
+    ghost is_cell = { λ _. Unit {0} };
+}
+
+#[test]
+fn laws_hold_of_a_kind_of_cells(_rt: HostRuntime) {
+    growing_keeps_names::<EachPlace>();
+    words_that_name::<EachPlace>();
+    wider_kind_is_named::<EachPlace, EachPlace>();
+}

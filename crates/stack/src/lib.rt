@@ -1,3 +1,6 @@
+//! A stack of values over a vector.
+#![tactic(auto)]
+
 ghost use Rattle.std.specs.Prelude.{◌≡◌, [], ◌∷◌, ◌++◌, reverse, OnOk, OnErr, MatchOption, IfOk};
 
 use std::alloc::{AllocError, Global};
@@ -21,6 +24,7 @@ impl<T> Model for Stack<T> {
 }
 
 impl<T> Stack<T> {
+    /// An empty stack.
     pub fn new(alloc: Global) -> Stack<T>
         ensures { result ≡ [] }
     {
@@ -29,6 +33,7 @@ impl<T> Stack<T> {
         }
     }
 
+    /// Takes the top off, if there is one.
     pub fn pop(&mut self) -> Option<T>
         ensures { MatchOption result ((self.old ≡ []) × (self.new ≡ [])) (λ top. self.old ≡ top ∷ self.new) }
     {
@@ -37,6 +42,7 @@ impl<T> Stack<T> {
 }
 
 impl<T: Drop> Stack<T> {
+    /// Puts a value on top.
     pub fn push(&mut self, top: T) -> Result<(), AllocError>
         ensures ok { OnOk result (self.new ≡ top ∷ self.old) }
         ensures err { OnErr result (self.new ≡ self.old) }
@@ -56,6 +62,25 @@ impl<T: Copy> Stack<T> {
             left -= 1;
             self.items.push(items[left])?;
         }
+        Ok(())
+    }
+}
+
+#[cfg(test)]
+mod tests {
+    use super::*;
+    use std::test::Fail;
+
+    #[test]
+    fn gives_back_the_last_first(rt: HostRuntime) -> Result<(), Fail> {
+        let mut stack = Stack::new(rt.alloc());
+        stack.push(1)?;
+        stack.push_all(&[4, 3, 2])?;
+        assert_eq!(rt; stack.pop(), Some(4));
+        assert_eq!(rt; stack.pop(), Some(3));
+        assert_eq!(rt; stack.pop(), Some(2));
+        assert_eq!(rt; stack.pop(), Some(1));
+        assert_eq!(rt; stack.pop(), None);
         Ok(())
     }
 }

@@ -1,5 +1,5 @@
 use Rattle.std.proofs.Common.{◌≡◌, ◌++◌, reverse, ◌≤◌, length, drop}
-use Rattle.core_parse.proofs.stack.Stack.push_all.Given as goal
+use Rattle.stack.proofs.Stack.push_all.Given as goal
 
 abbrev pub invariant-loop-left : goal.invariant-loop-left
 invariant-loop-left g l = (reverse l.self-inside.items.items ≡ drop l.left l.items ++ l.fn.self) × (l.left ≤ length l.items)
