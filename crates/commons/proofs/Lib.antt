@@ -18,5 +18,6 @@ pub mod PlainCloses
 pub mod Later
 pub mod Rowed
 pub mod Printing
+pub mod Events
 mod Families
 pub mod Readings

@@ -1,9 +1,10 @@
 -- What a pass may read of a known cell, one word after the other.
 use Rattle.std.proofs.Common.{◌≡◌, ◌≢◌, ℕ, ◌+◌, ◌<◌, ◌≤◌, List, [], ap, ◌∙◌, sym, refl, inl, inr, ⊎_elim, subst, append-nil, arith}
 use Rattle.std.specs.Prelude.{slice_index, length}
-use Rattle.hy_words.specs.Words.{tag_of, payload_of, area_word_of, following, IsTermHeader, IsScalar, IsValue}
+use Rattle.hy_words.specs.Words.{tag_of, payload_of, area_word_of, following, IsTermHeader, IsEntryHeader, IsScalar, IsValue}
 use Rattle.commons.specs.declared.view.View.{View}
-use Rattle.commons.specs.Views.{KnowsCell, KnowsPlace, KnowsTerm, MayShare, IsSound}
+use Rattle.commons.specs.Log.{header_at}
+use Rattle.commons.specs.Views.{Fits, KnowsCell, KnowsPlace, KnowsTerm, MayShare, IsSound}
 use Rattle.commons.specs.Changes.{IsSameButSeen, KeepsOthers}
 use Rattle.commons.proofs.Cells.{grown_same, grown_on, value_at, value_not_zero, inside_of, following_entry}
 use Rattle.commons.proofs.Grows.{area_word_place}
@@ -28,6 +29,14 @@ inside capacity log_size v cell k header sound known read some low =
     let e : slice_index area cell ≡ header = fit.agrees cell (λ z. some (sym read ∙ z)) ∙ read in
     let i = inside_of area (cell + 1 + k) (value_not_zero (slice_index area (cell + 1 + k)) (value_at area cell k (cell + 1 + k) (fit.whole cell known) (subst (λ (h : ℕ). k < following h) (sym e) low) refl)) in
     let s = fit.sized in omega arith
+
+-- the header of the entry at a known place, in each area that fits
+pub known_header : (capacity : ℕ) (v : View) (cell place header : ℕ) (area : List ℕ) → place < length v.known → area_word_of cell ≡ slice_index v.known place → slice_index v.seen cell ≡ header → header ≢ 0 → Fits capacity v area
+    → (header_at area (slice_index v.known place) ≡ header) × IsEntryHeader header
+known_header capacity v cell place header area low named read some fit =
+    let at : payload_of (slice_index v.known place) ≡ cell = ap payload_of (sym named) ∙ area_word_place cell in
+    let here : header_at area (slice_index v.known place) ≡ header = ap (slice_index area) at ∙ (fit.agrees cell (λ z. some (sym read ∙ z)) ∙ read) in
+    (here, subst IsEntryHeader here (fit.log.entries place low).1.1)
 
 -- a send entry has three words behind its header
 pub send_follows : (capacity log_size : ℕ) (v : View) (cell header : ℕ) → IsSound capacity log_size v → KnowsCell v cell → slice_index v.seen cell ≡ header → header ≢ 0 → tag_of header ≡ 9 → following header ≡ 3

@@ -3,6 +3,7 @@ pub mod Log
 pub mod Views
 pub mod Steps
 pub mod Changes
+pub mod Laws
 pub mod Rule
 pub mod Closing
 pub mod Plain

@@ -1,12 +1,12 @@
 //! Rows of words and entries of the log, put by any commons.
-ghost use Rattle.std.specs.Prelude.{◌≡◌, ◌+◌, ◌^◌, ◌<◌, ◌≤◌, length, slice_index};
-ghost use Rattle.hy_words.specs.Words.{IsPidWord, IsScalar, area_word_of, payload_of};
-ghost use Rattle.commons.specs.Log.{HasPrintWords, HasSendWords, HasSpawnWords, HasWords};
-ghost use Rattle.commons.specs.Views.{HasPrinted, MayAppend, MayPutAll, MayShare, MayShareAll};
-ghost use Rattle.commons.specs.Changes.{KeepsOthers, PutsRow, PutsWords};
+ghost use Rattle.std.specs.Prelude.{◌≡◌, ℕ, List, ◌+◌, ◌^◌, ◌<◌, ◌≤◌, length, slice_index};
+ghost use Rattle.hy_words.specs.Words.{IsPidWord, IsScalar, area_word_of, payload_of, tag_of, tag_of_entry};
+ghost use Rattle.commons.specs.Log.{header_at, HasPrintWords, HasSendWords, HasSpawnWords, HasWords};
+ghost use Rattle.commons.specs.Views.{Fits, HasPrinted, MayAppend, MayPutAll, MayShare, MayShareAll};
+ghost use Rattle.commons.specs.Changes.{IsSameButSeen, KeepsOthers, PutsRow, PutsWords};
 
 use crate::contract::Commons;
-use hy_words::{Entry, area_word, entry_header, int_word, pid_word};
+use hy_words::{Entry, area_word, entry_header, int_word, pid_word, tag, tags};
 
 /// Puts the words into the block, one behind the other, and answers the place of the first. The block
 /// has room for them, and each may be put by what the pass knows at the start. For no words the answer
@@ -107,4 +107,25 @@ pub fn put_print<C: Commons>(c: &mut C, pass: &mut C::Pass, actor: u64, text: u6
 {
     let header = entry_header(Entry::Print, 2);
     area_word(put_words(c, pass, &[header, pid_word(actor), int_word(text as i64)]))
+}
+
+/// The kind of the entry at a known place of the log. It reads the entry's header.
+pub fn entry_kind<C: Commons>(c: &mut C, pass: &mut C::Pass, place: u64) -> Entry
+    requires pass { C.is_pass c.old pass.old }
+    requires place { place < length (C.view c.old pass.old).known }
+    ensures later { C.later c.old c.new }
+    ensures others { KeepsOthers C.is_pass C.apart C.view c.old pass.old c.new pass.new }
+    ensures same { IsSameButSeen (C.view c.old pass.old) (C.view c.new pass.new) }
+    ensures kind { (area : List ℕ) → Fits (C.area_size c.new) (C.view c.new pass.new) area
+        → tag_of (header_at area (slice_index (C.view c.new pass.new).known place)) ≡ tag_of_entry result }
+{
+    let cell = c.entry(pass, place);
+    let kind = tag(c.get(pass, cell));
+    if kind == tags::SEND {
+        Entry::Send
+    } else if kind == tags::SPAWN {
+        Entry::Spawn
+    } else {
+        Entry::Print
+    }
 }

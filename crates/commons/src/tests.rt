@@ -6,7 +6,7 @@ ghost use Rattle.commons.specs.Changes.{KeepsOthers, IsSameButSeen};
 use super::*;
 use hy_terms::Memory;
 use hy_words::{
-    area_word, following, int_word, nil_word, payload, pid_word, tag, tags, tuple_header,
+    Entry, area_word, following, int_word, nil_word, payload, pid_word, tag, tags, tuple_header,
 };
 use std::test::Fail;
 
@@ -264,6 +264,7 @@ fn a_log_of_one_place_is_filled(rt: HostRuntime) -> Result<(), Fail> {
     let entry = put_send(&mut commons, &mut pass, 0, pid_word(0), nil_word());
     let place = commons.append(&mut pass, entry)?;
     assert_eq!(rt; place, 0);
+    assert_eq!(rt; entry_kind(&mut commons, &mut pass, place), Entry::Send);
     let second = put_send(&mut commons, &mut pass, 0, pid_word(0), nil_word());
     match commons.append(&mut pass, second) {
         Err(full) => assert_eq!(rt; full.seen, 1),
