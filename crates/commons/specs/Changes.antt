@@ -1,4 +1,5 @@
--- What each call changes of what a pass knows, and what it leaves of other passes. The project's own.
+-- What each call changes of what a pass knows, and what it leaves of other passes. The project's
+-- own.
 use Rattle.std.specs.Prelude.{◌≡◌, ◌≢◌, ◌⊎◌, ℕ, ◌+◌, List, ◌++◌, length, slice_index, Option, Some, None, if◌then◌else◌, ◌==◌}
 use Rattle.hy_words.specs.Lists.{Grown, StartsWith}
 use Rattle.hy_words.specs.declared.kind.Entry.TheVariants.{Spawn}
@@ -47,7 +48,8 @@ child_at header place = if tag_of header == tag_of_entry Spawn then Some (place 
 abbrev pub Appends : View → (entry place : ℕ) → View → Type 0
 Appends v entry place w =
     (between : List ℕ)
-    × IsSameButSeen (appended (knowing v (v.known ++ between)) place entry (child_at (header_at v.seen entry) place)) w
+    × IsSameButSeen
+    (appended (knowing v (v.known ++ between)) place entry (child_at (header_at v.seen entry) place)) w
     × (length w.known ≡ place + 1)
 
 -- one more empty look, unless the count stands at the last value of 64 bits and stays there
@@ -68,18 +70,22 @@ Bears v pid w = IsSameButSeen (bore v pid) w
 abbrev pub GivesUp : View → View → Type 0
 GivesUp v w = IsSameButSeen (gave_up v) w
 
--- the call changed p into q: q is a pass of the commons after it, and each pass that was apart from p still is one,
+-- the call changed p into q: q is a pass of the commons after it, and each pass that was apart from
+-- p still is one,
 -- apart from q, and as it was
-abbrev pub KeepsOthers : {C P : Type 0} → (C → P → Type 0) → (P → P → Type 0) → (C → P → View) → C → P → C → P → Type 0
+abbrev pub KeepsOthers : {C P : Type 0} → (C → P → Type 0) → (P → P → Type 0) → (C → P → View) → C
+    → P → C → P → Type 0
 KeepsOthers {C} {P} is_pass apart view c p d q =
     is_pass d q
-    × ((r : P) → is_pass c r → apart p r → is_pass d r × apart q r × IsSameButSeen (view c r) (view d r))
+    × ((r : P) → is_pass c r → apart p r → is_pass d r × apart q r
+    × IsSameButSeen (view c r) (view d r))
 
 -- what was apart from p is apart from q
 abbrev pub StaysApart : {P : Type 0} → (P → P → Type 0) → P → P → Type 0
 StaysApart {P} apart p q = (r : P) → apart p r → apart q r
 
 -- a child is apart from its parent, and from each pass that was apart from its parent
-abbrev pub IsApartFrom : {C P : Type 0} → (C → P → Type 0) → (P → P → Type 0) → C → P → P → P → Type 0
+abbrev pub IsApartFrom : {C P : Type 0} → (C → P → Type 0) → (P → P → Type 0) → C → P → P → P
+    → Type 0
 IsApartFrom {C} {P} is_pass apart c parent_old parent child =
     apart parent child × ((r : P) → is_pass c r → apart parent_old r → apart child r)

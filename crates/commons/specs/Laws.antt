@@ -16,12 +16,14 @@ KnowingMoreKeepsTerms =
 -- in each area that fits, each known place tells an event
 abbrev pub KnownPlacesTell : Type 0
 KnownPlacesTell =
-    (capacity : ℕ) (v : View) (area : List ℕ) (place : ℕ) → Fits capacity v area → place < length v.known
+    (capacity : ℕ) (v : View) (area : List ℕ) (place : ℕ) → Fits capacity v area
+    → place < length v.known
     → (e : LogEvent) × Tells area (payload_of (slice_index v.known place)) e
 
 -- one entry tells one event
 abbrev pub OneEntryOneEvent : Type 0
-OneEntryOneEvent = (area : List ℕ) (cell : ℕ) (e f : LogEvent) → Tells area cell e → Tells area cell f → e ≡ f
+OneEntryOneEvent =
+    (area : List ℕ) (cell : ℕ) (e f : LogEvent) → Tells area cell e → Tells area cell f → e ≡ f
 
 -- the longer of two lists is as long as the longer one
 abbrev pub LongerIsLongest : Type 0

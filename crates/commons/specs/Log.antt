@@ -1,4 +1,5 @@
--- The log as the list of its written words, each the area word of an entry: what the entries tell. The project's own.
+-- The log as the list of its written words, each the area word of an entry: what the entries tell.
+-- The project's own.
 use Rattle.std.specs.Prelude.{◌≡◌, ℕ, suc, ◌+◌, ◌<◌, ◌≤◌, ◌^◌, List, [], ◌∷◌, length, take, slice_index, if◌then◌else◌, ◌==◌, ◌&&◌, Bool}
 use Rattle.hy_terms.specs.declared.term.Colour.TheVariants.{Shared}
 use Rattle.hy_terms.specs.Labelled.{Labelled}
@@ -23,10 +24,13 @@ text_of area w = payload_of (slice_index area (payload_of w + 2))
 -- the places of an actor's entries, in a log whose first place is n
 abbrev pub own_places : List ℕ → ℕ → ℕ → List ℕ → List ℕ
 own_places area pid n [] = []
-own_places area pid n (w ∷ ws) = if actor_of area w == pid then n ∷ own_places area pid (suc n) ws else own_places area pid (suc n) ws
+own_places area pid n (w ∷ ws) =
+    if actor_of area w == pid then n ∷ own_places area pid (suc n) ws
+    else own_places area pid (suc n) ws
 
 abbrev pub is_print_of : List ℕ → ℕ → ℕ → Bool
-is_print_of area pid w = (actor_of area w == pid) && (tag_of (header_at area w) == tag_of_entry Print)
+is_print_of area pid w =
+    (actor_of area w == pid) && (tag_of (header_at area w) == tag_of_entry Print)
 
 -- how many of the entries are print entries of this actor
 abbrev pub prints : List ℕ → ℕ → List ℕ → ℕ
@@ -34,9 +38,13 @@ prints area pid log = total (λ w. if is_print_of area pid w then 1 else 0) log
 
 -- how many of the entries at these places of the log are print entries
 abbrev pub prints_at : List ℕ → List ℕ → List ℕ → ℕ
-prints_at area log places = total (λ place. if tag_of (header_at area (slice_index log place)) == tag_of_entry Print then 1 else 0) places
+prints_at area log places =
+    total
+    (λ place. if tag_of (header_at area (slice_index log place)) == tag_of_entry Print then 1 else 0)
+    places
 
--- the event of an actor that an entry tells: a message and arguments are labelled terms, a text is known by its number
+-- the event of an actor that an entry tells: a message and arguments are labelled terms, a text is
+-- known by its number
 pub data LogEvent : Type 0 where
   LoggedSend : (actor target : ℕ) → Labelled → LogEvent
   LoggedSpawn : (actor function : ℕ) → List Labelled → LogEvent
@@ -44,9 +52,11 @@ pub data LogEvent : Type 0 where
 
 -- these words stand in a row, the first at this place
 abbrev pub HasWords : List ℕ → (place : ℕ) → List ℕ → Type 0
-HasWords area place words = (k : ℕ) → k < length words → slice_index area (place + k) ≡ slice_index words k
+HasWords area place words =
+    (k : ℕ) → k < length words → slice_index area (place + k) ≡ slice_index words k
 
--- the first words of a send entry, behind which its message stands, and of a spawn entry, behind which its n arguments stand
+-- the first words of a send entry, behind which its message stands, and of a spawn entry, behind
+-- which its n arguments stand
 abbrev pub HasSendWords : List ℕ → (place actor target : ℕ) → Type 0
 HasSendWords area place actor target =
     (slice_index area place ≡ entry_header_of Send 3)
@@ -77,12 +87,15 @@ Tells area cell (LoggedSpawn actor function arguments) =
 Tells area cell (LoggedPrint actor text) =
     HasPrintWords area cell actor text × (text < 2 ^ 59)
 
--- the log fits, each of its words names a whole entry that tells an event, and the i-th print of an actor, from 0, names its text i
+-- the log fits, each of its words names a whole entry that tells an event, and the i-th print of an
+-- actor, from 0, names its text i
 pub record IsLog (log_size : ℕ) (log area : List ℕ) : Type 0 where
   pub short : length log ≤ log_size
   pub entries : (k : ℕ) → k < length log
       → (tag_of (slice_index log k) ≡ area_tag) × IsEntryCell area (payload_of (slice_index log k))
-  pub events : (k : ℕ) → k < length log → (e : LogEvent) × Tells area (payload_of (slice_index log k)) e
+  pub events : (k : ℕ) → k < length log
+      → (e : LogEvent) × Tells area (payload_of (slice_index log k)) e
   pub numbered : (k : ℕ) → k < length log
       → tag_of (header_at area (slice_index log k)) ≡ tag_of_entry Print
-      → text_of area (slice_index log k) ≡ prints area (actor_of area (slice_index log k)) (take k log)
+      → text_of area (slice_index log k)
+      ≡ prints area (actor_of area (slice_index log k)) (take k log)

@@ -16,14 +16,42 @@ is_parent (Some p) pid = p == pid
 -- the children of a pid, in the order of their accounts
 abbrev pub children_of : ℕ → List Account → List ℕ
 children_of pid [] = []
-children_of pid (x ∷ xs) = if is_parent x.parent pid then x.pid ∷ children_of pid xs else children_of pid xs
+children_of pid (x ∷ xs) =
+    if is_parent x.parent pid then x.pid ∷ children_of pid xs else children_of pid xs
 
 -- what a pass with this account knows: all written words of the area count as read
 abbrev pub shown : (log area : List ℕ) → List Account → Account → View
-shown log area accounts x = record { pid = x.pid; known = take x.known log; told = None; own = own_places area x.pid 0 log; born = children_of x.pid accounts; unborn = x.unborn; block_start = x.block_start; block_end = x.block_end; seen = area; looks = x.looks; puts = x.puts; requests = x.requests; refused = x.refused }
+shown log area accounts x =
+    record {
+      pid = x.pid;
+      known = take x.known log;
+      told = None;
+      own = own_places area x.pid 0 log;
+      born = children_of x.pid accounts;
+      unborn = x.unborn;
+      block_start = x.block_start;
+      block_end = x.block_end;
+      seen = area;
+      looks = x.looks;
+      puts = x.puts;
+      requests = x.requests;
+      refused = x.refused;
+    }
 
 abbrev pub no_account : Account
-no_account = record { pid = 0; parent = None; known = 0; unborn = None; block_start = 0; block_end = 0; looks = 0; puts = 0; requests = 0; refused = None }
+no_account =
+    record {
+      pid = 0;
+      parent = None;
+      known = 0;
+      unborn = None;
+      block_start = 0;
+      block_end = 0;
+      looks = 0;
+      puts = 0;
+      requests = 0;
+      refused = None;
+    }
 
 abbrev pub account_in : PlainCommons → PlainPass → Account
 account_in c p = slice_index_or c.accounts.items p.slot no_account
@@ -53,8 +81,11 @@ log_in c = c.log.items
 
 -- no account knows more than the log has, and each parent has an account
 pub record AreAccounts (log : List ℕ) (accounts : List Account) : Type 0 where
-  pub known : (k : ℕ) → k < length accounts → (slice_index_or accounts k no_account).known ≤ length log
-  pub parents : (k p : ℕ) → k < length accounts → (slice_index_or accounts k no_account).parent ≡ Some p → (j : ℕ) × (j < length accounts) × ((slice_index_or accounts j no_account).pid ≡ p)
+  pub known : (k : ℕ) → k < length accounts
+      → (slice_index_or accounts k no_account).known ≤ length log
+  pub parents : (k p : ℕ) → k < length accounts
+      → (slice_index_or accounts k no_account).parent ≡ Some p → (j : ℕ) × (j < length accounts)
+      × ((slice_index_or accounts j no_account).pid ≡ p)
 
 -- a pass of the commons: its account is there, and the rule holds of the whole
 pub record IsPassIn (c : PlainCommons) (p : PlainPass) : Type 0 where

@@ -1,4 +1,5 @@
--- The rule of the commons, over the claim word, the written log words, the area words, and one view for each pass that was ever made.
+-- The rule of the commons, over the claim word, the written log words, the area words, and one view
+-- for each pass that was ever made.
 -- It is the project's own.
 use Rattle.std.specs.Prelude.{◌≡◌, ◌≢◌, ℕ, suc, ◌+◌, ◌*◌, ◌<◌, ◌≤◌, List, length, slice_index, Option, Some, None, if◌then◌else◌, ◌==◌}
 use mathlib.Core.Option.{some}
@@ -39,7 +40,8 @@ pub record HasBlock (area_size claim : ℕ) (area : List ℕ) (start stop : ℕ)
   pub inside : stop ≤ area_size
   pub fresh : (place : ℕ) → start ≤ place → place < stop → slice_index area place ≡ 0
 
--- the known words begin the log, a told list too; the words that were read or written are those that stand there; known cells are whole
+-- the known words begin the log, a told list too; the words that were read or written are those
+-- that stand there; known cells are whole
 pub record HasKnown (area_size : ℕ) (log area known : List ℕ) (told : Option (List ℕ)) (seen : List ℕ) : Type 0 where
   pub begins : StartsWith log known
   pub told_begins : (t : List ℕ) → told ≡ Some t → StartsWith log t
@@ -54,14 +56,17 @@ pub record HasOwn (log area : List ℕ) (pid : ℕ) (own known : List ℕ) : Typ
 
 -- there is a spawn entry at this place of the log
 abbrev pub IsSpawnAt : (log area : List ℕ) → ℕ → Type 0
-IsSpawnAt log area place = (place < length log) × (tag_of (header_at area (slice_index log place)) ≡ tag_of_entry Spawn)
+IsSpawnAt log area place =
+    (place < length log) × (tag_of (header_at area (slice_index log place)) ≡ tag_of_entry Spawn)
 
--- a pid is 0 or one more than the place of a spawn entry, an unborn child one more than that of an own one
+-- a pid is 0 or one more than the place of a spawn entry, an unborn child one more than that of an
+-- own one
 pub record HasPid (log area : List ℕ) (pid : ℕ) (known own : List ℕ) (child : Option ℕ) : Type 0 where
   pub pid_known : pid ≤ length known
   pub own_late : (place : ℕ) → Has own place → pid ≤ place
   pub spawned : (place : ℕ) → pid ≡ suc place → IsSpawnAt log area place
-  pub unborn_own : (q : ℕ) → child ≡ Some q → (place : ℕ) × Has own place × (q ≡ place + 1) × IsSpawnAt log area place
+  pub unborn_own : (q : ℕ) → child ≡ Some q → (place : ℕ) × Has own place × (q ≡ place + 1)
+      × IsSpawnAt log area place
 
 -- a refused claim lies below the claim word
 abbrev pub HasRefusal : (claim : ℕ) → Option Refusal → Type 0
@@ -87,7 +92,8 @@ IsClear v w = (q : ℕ) → v.unborn ≡ Some q → (w.pid ≢ q) × (w.unborn �
 -- what holds of two passes
 pub record AreApart (v w : View) : Type 0 where
   pub pids : v.pid ≢ w.pid
-  pub blocks : (place : ℕ) → v.block_start ≤ place → place < v.block_end → w.block_start ≤ place → place < w.block_end → ⊥
+  pub blocks : (place : ℕ) → v.block_start ≤ place → place < v.block_end → w.block_start ≤ place
+      → place < w.block_end → ⊥
   pub clear : IsClear v w
   pub clear_back : IsClear w v
 
@@ -102,7 +108,8 @@ IsActor views pid = (k : ℕ) × (v : View) × At views k v × (pid ≡ v.pid)
 abbrev pub HasParent : (log area : List ℕ) → List View → View → Type 0
 HasParent log area views v =
     (place : ℕ) → v.pid ≡ suc place
-    → (j : ℕ) × (u : View) × At views j u × (actor_of area (slice_index log place) ≡ u.pid) × Has u.born v.pid
+    → (j : ℕ) × (u : View) × At views j u × (actor_of area (slice_index log place) ≡ u.pid)
+    × Has u.born v.pid
 
 -- the rule, in nine parts, and the count of passes
 pub record IsKept (area_size log_size claim : ℕ) (log area : List ℕ) (views : List View) : Type 0 where
@@ -119,8 +126,10 @@ pub record IsKept (area_size log_size claim : ℕ) (log area : List ℕ) (views 
   -- part 6: each pass has a parent, but the first
   pub parents : (k : ℕ) (v : View) → At views k v → HasParent log area views v
   -- part 7: the actor of each entry is a pass
-  pub actors : (place : ℕ) → place < length log → IsActor views (actor_of area (slice_index log place))
-  -- part 8: the claim word is at most the capacity, and once more the largest request for each refused claim
+  pub actors : (place : ℕ) → place < length log
+      → IsActor views (actor_of area (slice_index log place))
+  -- part 8: the claim word is at most the capacity, and once more the largest request for each
+  -- refused claim
   pub bound : claim ≤ area_size + (area_size + 1) * refusals views
   -- part 9
   pub all_requests : claim ≡ requests views

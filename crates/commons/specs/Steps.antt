@@ -4,14 +4,30 @@ use Rattle.commons.specs.declared.view.View.{View}
 
 -- the first pass, before it did anything
 abbrev pub first_view : (area_size : ℕ) → View
-first_view area_size = record { pid = 0; known = []; told = None; own = []; born = []; unborn = None; block_start = 0; block_end = 0; seen = replicate area_size 0; looks = 0; puts = 0; requests = 0; refused = None }
+first_view area_size =
+    record {
+      pid = 0;
+      known = [];
+      told = None;
+      own = [];
+      born = [];
+      unborn = None;
+      block_start = 0;
+      block_end = 0;
+      seen = replicate area_size 0;
+      looks = 0;
+      puts = 0;
+      requests = 0;
+      refused = None;
+    }
 
 -- a claim that fits, and one that is refused
 abbrev pub claimed : View → (old n : ℕ) → View
 claimed v old n = record v { block_start = old; block_end = old + n; requests = v.requests + n }
 
 abbrev pub refused_claim : View → (old n : ℕ) → View
-refused_claim v old n = record v { requests = v.requests + n; refused = Some (record { old = old; asked = n }) }
+refused_claim v old n =
+    record v { requests = v.requests + n; refused = Some (record { old = old; asked = n }) }
 
 -- n words of the block are no longer free
 abbrev pub put_on : View → (n : ℕ) → View
@@ -46,7 +62,19 @@ abbrev pub bore : View → ℕ → View
 bore v q = record v { unborn = None; born = v.born ++ q ∷ [] }
 
 abbrev pub born_of : View → ℕ → View
-born_of v q = record v { pid = q; own = []; born = []; unborn = None; block_start = 0; block_end = 0; looks = 0; puts = 0; requests = 0; refused = None }
+born_of v q =
+    record v {
+      pid = q;
+      own = [];
+      born = [];
+      unborn = None;
+      block_start = 0;
+      block_end = 0;
+      looks = 0;
+      puts = 0;
+      requests = 0;
+      refused = None;
+    }
 
 -- a birth that found no memory
 abbrev pub gave_up : View → View

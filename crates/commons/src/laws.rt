@@ -6,14 +6,15 @@ pub fn knowing_more_keeps_terms()
     ensures { KnowingMoreKeepsTerms }
 {}
 
-/// In each area that fits a pass, each place of the log that it knows tells an event, and no entry tells
-/// two.
+/// In each area that fits a pass, each place of the log that it knows tells an event, and no entry
+/// tells two.
 pub fn known_places_tell()
     ensures events { KnownPlacesTell }
     ensures once { OneEntryOneEvent }
 {}
 
-/// A pass that was told what another knows knows as many log words as the one of both that knew more.
+/// A pass that was told what another knows knows as many log words as the one of both that knew
+/// more.
 pub fn longer_is_longest()
     ensures { LongerIsLongest }
 {}

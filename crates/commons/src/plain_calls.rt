@@ -1,9 +1,11 @@
 //! The calls of the plain commons.
-ghost use Rattle.std.specs.Prelude.{◌≡◌, ◌⊎◌, ℕ, ◌+◌, ◌^◌, ◌<◌, ◌≤◌, length, ◌↔◌, IfErr, IfSome, IfNone, IsNone, IsOk, None, OnOk};
+ghost use Rattle.std.specs.Prelude.{◌≡◌, ◌⊎◌, ℕ, ◌+◌, ◌^◌, ◌<◌, ◌≤◌, ◌↔◌, length};
+ghost use Rattle.std.specs.Prelude.{IfErr, IfSome, IfNone, IsNone, IsOk, None, OnOk};
 ghost use Rattle.commons.specs.Changes.{child_at, Claims, KeepsOthers, Learns, LooksInVain, Refuses};
 ghost use Rattle.std.proofs.Common.{sym};
 ghost use Rattle.commons.specs.PlainLaws.{same_is_later, later_on};
-ghost use Rattle.commons.specs.Plain.{IsPassIn, IsApartIn, IsLaterIn, view_in, area_size_in, claim_in, log_size_in, log_in};
+ghost use Rattle.commons.specs.Plain.{IsPassIn, IsApartIn, IsLaterIn, view_in, claim_in};
+ghost use Rattle.commons.specs.Plain.{area_size_in, log_size_in, log_in};
 
 use crate::contract::{AreaFull, Commons, LogFull};
 use crate::plain::{Account, PlainCommons, PlainPass};
@@ -121,12 +123,19 @@ impl Commons for PlainCommons {
         requires pass { IsPassIn self.old pass.old }
         ensures later { IsLaterIn self.old self.new }
         ensures others { KeepsOthers IsPassIn IsApartIn view_in self.old pass.old self.new pass.new }
-        ensures place { IfSome result (λ place. (place ≡ length (view_in self.old pass.old).known) × (place < log_size_in self.old)) }
-        ensures learns { IfSome result (λ place. (length (view_in self.new pass.new).known ≡ place + 1) × Learns (view_in self.old pass.old) (view_in self.new pass.new).known (view_in self.new pass.new)) }
-        ensures none { IfNone result (LooksInVain (view_in self.old pass.old) (view_in self.new pass.new)) }
+        ensures place { IfSome result (λ place.
+            (place ≡ length (view_in self.old pass.old).known) × (place < log_size_in self.old)) }
+        ensures learns { IfSome result (λ place. (length (view_in self.new pass.new).known ≡ place + 1)
+            × Learns (view_in self.old pass.old) (view_in self.new pass.new).known
+            (view_in self.new pass.new)) }
+        ensures none { IfNone result (
+            LooksInVain (view_in self.old pass.old) (view_in self.new pass.new)) }
         // On one thread it finds nothing exactly where the pass knows all that was written.
-        ensures exactly { IsNone result ↔ (length (view_in self.old pass.old).known ≡ length (log_in self.old)) }
-        ensures last_count { IfNone result ((view_in self.old pass.old).looks ≡ 18446744073709551615 → (view_in self.new pass.new).looks ≡ 18446744073709551615) }
+        ensures exactly { IsNone result ↔
+            (length (view_in self.old pass.old).known ≡ length (log_in self.old)) }
+        ensures last_count { IfNone result (
+            (view_in self.old pass.old).looks ≡ 18446744073709551615
+            → (view_in self.new pass.new).looks ≡ 18446744073709551615) }
     {
         let mut account = self.accounts[pass.slot];
         let place = account.known;

@@ -13,7 +13,8 @@ use hy_words::WordList;
 use std::alloc::Global;
 
 impl PlainCommons {
-    /// A commons with `area` words and `log` places of which none is written, and the pass with pid 0.
+    /// A commons with `area` words and `log` places of which none is written, and the pass with pid
+    /// 0.
     pub fn new(alloc: Global, area: u64, log: u64) -> Result<(PlainCommons, PlainPass), Memory>
         requires area { IsAreaSize area }
         requires log { IsLogSize log }
@@ -46,8 +47,8 @@ impl PlainCommons {
         Ok((commons, PlainPass { slot: 0, pid: 0 }))
     }
 
-    /// The end of the commons, where all its passes are given back: the one with pid 0 and, with each
-    /// pass, the children that it bore. The rule holds of what is left. It takes no memory.
+    /// The end of the commons, where all its passes are given back: the one with pid 0 and, with
+    /// each pass, the children that it bore. The rule holds of what is left. It takes no memory.
     pub fn close(self, passes: Vec<PlainPass>) -> Result<Final, Memory>
         requires passes { All (λ p. IsPassIn self p) passes.items }
         requires apart { AllPairs IsApartIn passes.items }

@@ -55,7 +55,8 @@ fn post<C: Commons>(
     ensures own { IfOk result (λ place. (C.view c.new pass.new).own ≡ (C.view c.old pass.old).own ++ place ∷ []) }
     ensures counts { OnOk result (((C.view c.new pass.new).puts ≡ (C.view c.old pass.old).puts + 4)
         × ((C.view c.new pass.new).requests ≡ (C.view c.old pass.old).requests + 256)) }
-    ensures again { OnOk result (((C.view c.new pass.new).refused ≡ None) × ((C.view c.new pass.new).unborn ≡ None)) }
+    ensures again { OnOk result (((C.view c.new pass.new).refused ≡ None)
+        × ((C.view c.new pass.new).unborn ≡ None)) }
     ensures same { OnOk result (((C.view c.new pass.new).pid ≡ (C.view c.old pass.old).pid)
         × ((C.view c.new pass.new).born ≡ (C.view c.old pass.old).born)) }
 {
@@ -80,7 +81,8 @@ fn post_tuple<C: Commons>(
     ensures texts { OnOk result ((n : ℕ) → HasPrinted (C.area_size c.old) (C.view c.old pass.old) n
         → HasPrinted (C.area_size c.new) (C.view c.new pass.new) n) }
     ensures room { OnOk result ((C.view c.new pass.new).block_start + 250 ≡ (C.view c.new pass.new).block_end) }
-    ensures again { OnOk result (((C.view c.new pass.new).refused ≡ None) × ((C.view c.new pass.new).unborn ≡ None)) }
+    ensures again { OnOk result (((C.view c.new pass.new).refused ≡ None)
+        × ((C.view c.new pass.new).unborn ≡ None)) }
     ensures same { OnOk result (((C.view c.new pass.new).pid ≡ (C.view c.old pass.old).pid)
         × ((C.view c.new pass.new).born ≡ (C.view c.old pass.old).born)) }
 {
@@ -177,19 +179,23 @@ fn spawn<C: Commons>(c: &mut C, pass: &mut C::Pass, actor: u64) -> Result<(C::Pa
     Ok((child, place + 1))
 }
 
-// The first process sends a tuple. The second reads it, and sends it on. Then the first prints, claims
-// again with a rest left, and sends once more. Answers what the second read: target, message and part.
+// The first process sends a tuple. The second reads it, and sends it on. Then the first prints,
+// claims again with a rest left, and sends once more. Answers what the second read: target, message
+// and part.
 fn exchange<C: Commons>(
     c: &mut C,
     first: &mut C::Pass,
     second: &mut C::Pass,
     pids: (u64, u64),
 ) -> Result<(u64, u64, u64), Refused>
-    requires passes { C.is_pass c.old first.old × C.is_pass c.old second.old × C.apart first.old second.old }
-    requires again { ((C.view c.old first.old).refused ≡ None) × ((C.view c.old first.old).unborn ≡ None) }
+    requires passes { C.is_pass c.old first.old × C.is_pass c.old second.old
+        × C.apart first.old second.old }
+    requires again { ((C.view c.old first.old).refused ≡ None)
+        × ((C.view c.old first.old).unborn ≡ None) }
     requires second_again { ((C.view c.old second.old).refused ≡ None)
         × ((C.view c.old second.old).unborn ≡ None) }
-    requires pids { ((C.view c.old first.old).pid ≡ pids.0) × ((C.view c.old second.old).pid ≡ pids.1) }
+    requires pids { ((C.view c.old first.old).pid ≡ pids.0)
+        × ((C.view c.old second.old).pid ≡ pids.1) }
     requires texts { HasPrinted (C.area_size c.old) (C.view c.old first.old) 0 }
     ensures passes { OnOk result (C.is_pass c.new first.new × C.is_pass c.new second.new
         × C.apart first.new second.new) }
