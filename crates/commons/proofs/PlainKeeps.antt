@@ -100,9 +100,6 @@ low_requests c p h = let o = one_of (λ (v : View). v.requests) (views_in c) p.s
 pub low_puts : (c : PlainCommons) (p : PlainPass) → IsPassIn c p → (account_in c p).puts ≤ 67108864
 low_puts c p h = let o = one_of (λ (v : View). v.puts) (views_in c) p.slot (view_in c p) (here c p h) in let e = h.kept.all_puts in let w = written_le c.area.items in let l = h.area_size.1 in omega arith
 
-pub block_in : (c : PlainCommons) (p : PlainPass) → IsPassIn c p → ((account_in c p).block_start ≤ (account_in c p).block_end) × ((account_in c p).block_end ≤ length c.area.items)
-block_in c p h = let b = (h.kept.each p.slot (view_in c p) (here c p h)).block in (b.ordered, b.inside)
-
 pub block_below : (c : PlainCommons) (p : PlainPass) → IsPassIn c p → (view_in c p).block_end ≤ c.claim
 block_below c p h = (h.kept.each p.slot (view_in c p) (here c p h)).block.below
 

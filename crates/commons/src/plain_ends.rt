@@ -14,7 +14,8 @@ use std::alloc::Global;
 
 impl PlainCommons {
     /// A commons with `area` words and `log` places of which none is written, and the pass with pid
-    /// 0.
+    /// 0, which knows nothing yet. `area` is from 256 to 67,108,864, and `log` from 1 to 4,194,304.
+    /// It takes all memory that the commons will need, but that for the passes of children.
     pub fn new(alloc: Global, area: u64, log: u64) -> Result<(PlainCommons, PlainPass), Memory>
         requires area { IsAreaSize area }
         requires log { IsLogSize log }
