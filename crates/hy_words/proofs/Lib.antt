@@ -1,4 +1,5 @@
 pub mod FieldLemmas
+pub mod Headers
 pub mod HeightLemmas
 pub mod Naming
 pub mod Numbers

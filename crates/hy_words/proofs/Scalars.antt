@@ -1,5 +1,5 @@
--- Scalars are the words that stand for a term by themselves; and which headers there are.
-use Rattle.std.proofs.Common.{◌≡◌, ◌≢◌, ◌⊎◌, inl, inr, ⊎_elim, ℕ, ℤ, ◌^◌, ◌<◌, ◌≤◌, List, ap, ◌∙◌, subst, arith, refl}
+-- Scalars are the words that stand for a term by themselves.
+use Rattle.std.proofs.Common.{◌≡◌, ◌≢◌, inl, inr, ℕ, ℤ, ◌^◌, ◌<◌, List, ap, ◌∙◌, subst, arith, refl}
 use Rattle.std.specs.Prelude.{pos, negsuc}
 use native.Mathlib.Decide.{ℕ_discrete}
 use mathlib.Core.Logic.{dite}
@@ -7,9 +7,7 @@ use Rattle.hy_terms.specs.Range.{IsNumber}
 use Rattle.hy_terms.specs.Labelled.{Labelled}
 use Rattle.hy_terms.specs.Labelled as l
 use Rattle.hy_terms.specs.declared.term.Colour.TheVariants.{Private, Shared}
-use Rattle.hy_words.specs.declared.kind.Entry.{Entry}
-use Rattle.hy_words.specs.declared.kind.Entry.TheVariants.{Send, Spawn, Print}
-use Rattle.hy_words.specs.Words.{word_of, tag_of, payload_of, private_tag, number_tag, atom_tag, pid_tag, tuple_tag, cons_tag, tag_of_entry, payload_of_number, number_of, number_word, IsScalar, IsValue, IsTermHeader, IsEntryHeader}
+use Rattle.hy_words.specs.Words.{word_of, tag_of, payload_of, private_tag, number_tag, atom_tag, pid_tag, payload_of_number, number_of, number_word, IsScalar, IsValue}
 use Rattle.hy_words.specs.Stands.{Stands, of_int, of_atom, of_pid, of_nil, of_cons, of_tuple}
 use Rattle.hy_words.proofs.Numbers.{number_back, number_below}
 
@@ -49,28 +47,3 @@ stands_value heap area t w (of_cons Private site place head tail r h q) o = absu
 stands_value heap area t w (of_tuple Private site place parts r n h q) o = absurd (o (omega arith))
 stands_value heap area t w (of_cons Shared site place head tail r h q) o = inr (omega arith)
 stands_value heap area t w (of_tuple Shared site place parts r n h q) o = inr (omega arith)
-
-pub term_header : (w : ℕ) → IsTermHeader w → (tag_of w ≡ tuple_tag) ⊎ (tag_of w ≡ cons_tag)
-term_header w h = dite (ℕ_discrete (tag_of w) 7) (λ e. inl e) (λ o. inr (omega (arith, h)))
-
-header_of_term : (w : ℕ) → (tag_of w ≡ tuple_tag) ⊎ (tag_of w ≡ cons_tag) → IsTermHeader w
-header_of_term w h = ⊎_elim (λ (e : tag_of w ≡ tuple_tag). (omega arith, omega arith)) (λ (e : tag_of w ≡ cons_tag). (omega arith, omega arith)) h
-
-pub entry_header_kind : (w : ℕ) → IsEntryHeader w → (kind : Entry) × (tag_of w ≡ tag_of_entry kind)
-entry_header_kind w h =
-    dite (ℕ_discrete (tag_of w) 9) (λ e. (Send, e))
-    (λ n. dite (ℕ_discrete (tag_of w) 10) (λ e. (Spawn, e)) (λ o. (Print, omega (arith, h))))
-
-entry_tags : (kind : Entry) → (9 ≤ tag_of_entry kind) × (tag_of_entry kind ≤ 11)
-entry_tags Send = (omega arith, omega arith)
-entry_tags Spawn = (omega arith, omega arith)
-entry_tags Print = (omega arith, omega arith)
-
-header_of_entry : (w : ℕ) → (kind : Entry) × (tag_of w ≡ tag_of_entry kind) → IsEntryHeader w
-header_of_entry w h = let e = entry_tags h.0 in let f : tag_of w ≡ tag_of_entry h.0 = h.1 in (omega arith, omega arith)
-
-pub term_headers : (w : ℕ) → (IsTermHeader w → (tag_of w ≡ tuple_tag) ⊎ (tag_of w ≡ cons_tag)) × ((tag_of w ≡ tuple_tag) ⊎ (tag_of w ≡ cons_tag) → IsTermHeader w)
-term_headers w = (term_header w, header_of_term w)
-
-pub entry_headers : (w : ℕ) → (IsEntryHeader w → (kind : Entry) × (tag_of w ≡ tag_of_entry kind)) × ((kind : Entry) × (tag_of w ≡ tag_of_entry kind) → IsEntryHeader w)
-entry_headers w = (entry_header_kind w, header_of_entry w)

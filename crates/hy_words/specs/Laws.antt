@@ -1,9 +1,9 @@
 -- Laws of what words stand for.
-use Rattle.std.specs.Prelude.{◌≡◌, ◌≢◌, ◌⊎◌, ◌↔◌, ℕ, ◌+◌, ◌<◌, ◌≤◌, List, length, map, slice_get, slice_index, Some}
+use Rattle.std.specs.Prelude.{◌≡◌, ◌≢◌, ◌⊎◌, ◌↔◌, ℕ, ◌+◌, ◌^◌, ◌<◌, ◌≤◌, List, length, map, slice_get, slice_index, Some}
 use Rattle.hy_terms.specs.Labelled.{Labelled, IsLabelled}
 use Rattle.hy_words.specs.Lists.{Grown}
 use Rattle.hy_words.specs.declared.kind.Entry.{Entry}
-use Rattle.hy_words.specs.Words.{tag_of, payload_of, private_tag, area_tag, tuple_tag, cons_tag, tag_of_entry, IsTermHeader, IsEntryHeader, IsScalar, IsValue}
+use Rattle.hy_words.specs.Words.{tag_of, payload_of, private_tag, area_tag, tuple_tag, cons_tag, tag_of_entry, tuple_header_of, cons_header_of, entry_header_of, IsHeader, IsTermHeader, IsEntryHeader, IsScalar, IsValue}
 use Rattle.hy_words.specs.Fields.{fields_of}
 use Rattle.hy_words.specs.Heights.{height, greatest_of}
 use Rattle.hy_words.specs.Stands.{Stands}
@@ -50,6 +50,23 @@ TermHeadersByTag = (w : ℕ) → IsTermHeader w ↔ ((tag_of w ≡ tuple_tag) �
 -- the headers of entries are those of the three kinds
 abbrev pub EntryHeadersByTag : Type 0
 EntryHeadersByTag = (w : ℕ) → IsEntryHeader w ↔ ((kind : Entry) × (tag_of w ≡ tag_of_entry kind))
+
+-- made of a size and a site
+abbrev pub MadeAsTuple : ℕ → Type 0
+MadeAsTuple w =
+    (size : ℕ) × (site : ℕ) × (size < 2 ^ 28) × (site < 2 ^ 28) × (w ≡ tuple_header_of size site)
+
+-- made of a site
+abbrev pub MadeAsCons : ℕ → Type 0
+MadeAsCons w = (site : ℕ) × (site < 2 ^ 28) × (w ≡ cons_header_of site)
+
+-- made of a kind and the number of words that follow
+abbrev pub MadeAsEntry : ℕ → Type 0
+MadeAsEntry w = (kind : Entry) × (n : ℕ) × (n < 2 ^ 28) × (w ≡ entry_header_of kind n)
+
+-- the headers are those of tuples, of conses and of entries
+abbrev pub HeadersAreMade : Type 0
+HeadersAreMade = (w : ℕ) → IsHeader w ↔ (MadeAsTuple w ⊎ (MadeAsCons w ⊎ MadeAsEntry w))
 
 -- a term is one higher than its highest field
 abbrev pub HeightsByFields : Type 0

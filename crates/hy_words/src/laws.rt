@@ -1,5 +1,5 @@
 //! Laws of what words stand for. These functions only carry them.
-ghost use Rattle.hy_words.specs.Laws.{ScalarsStand, SharedWordsAreValues, TermHeadersByTag, EntryHeadersByTag, HeightsByFields, FieldsAreLower, SharedWordsName, PrivateWordsName};
+ghost use Rattle.hy_words.specs.Laws.{ScalarsStand, SharedWordsAreValues, TermHeadersByTag, EntryHeadersByTag, HeadersAreMade, HeightsByFields, FieldsAreLower, SharedWordsName, PrivateWordsName};
 ghost use Rattle.hy_words.specs.Laws.{GrowingKeepsTerms, OneWordOneTerm, AreaKeepsTerms, WordsStandForLabelled, TermsAreLow, WiderKindIsNamed, GrowingKeepsNames};
 
 use crate::cell_kind::CellKind;
@@ -30,8 +30,9 @@ pub fn scalars_stand()
     ensures values { SharedWordsAreValues }
 {}
 
-/// The headers of terms and of entries are told by their tags.
+/// The headers are those of tuples, of conses and of entries. Their tags tell which.
 pub fn headers_by_tag()
+    ensures made { HeadersAreMade }
     ensures terms { TermHeadersByTag }
     ensures entries { EntryHeadersByTag }
 {}
