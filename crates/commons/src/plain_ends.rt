@@ -1,5 +1,5 @@
 //! The beginning and the end of the plain commons.
-ghost use Rattle.std.specs.Prelude.{◌≡◌, ◌+◌, ◌≤◌, IfOk, map};
+ghost use Rattle.std.specs.Prelude.{◌≡◌, IfOk, map};
 ghost use Rattle.std.specs.List.{All, AllPairs};
 ghost use Rattle.commons.specs.Views.{IsAreaSize, IsLogSize};
 ghost use Rattle.commons.specs.Rule.{IsKept};

@@ -1,4 +1,4 @@
-ghost use Rattle.std.specs.Prelude.{◌≡◌, ◌≢◌, ℕ, ◌+◌, ◌^◌, ◌<◌, ◌≤◌, ◌++◌, ◌∷◌, [], length, IfOk, IfSome, OnOk, Some, None, slice_index};
+ghost use Rattle.std.specs.Prelude.{◌≡◌, ℕ, ◌+◌, ◌≤◌, ◌++◌, ◌∷◌, [], IfOk, OnOk, None};
 ghost use Rattle.hy_words.specs.Words.{IsPidWord, IsScalar};
 ghost use Rattle.commons.specs.Views.{HasPrinted, MayShare};
 ghost use Rattle.commons.specs.Changes.{KeepsOthers, IsSameButSeen};
@@ -52,7 +52,8 @@ fn post<C: Commons>(
     requires message { MayShare (C.area_size c.old) (C.view c.old pass.old) message }
     ensures later { C.later c.old c.new }
     ensures others { KeepsOthers C.is_pass C.apart C.view c.old pass.old c.new pass.new }
-    ensures own { IfOk result (λ place. (C.view c.new pass.new).own ≡ (C.view c.old pass.old).own ++ place ∷ []) }
+    ensures own { IfOk result (λ place. (C.view c.new pass.new).own
+        ≡ (C.view c.old pass.old).own ++ place ∷ []) }
     ensures counts { OnOk result (((C.view c.new pass.new).puts ≡ (C.view c.old pass.old).puts + 4)
         × ((C.view c.new pass.new).requests ≡ (C.view c.old pass.old).requests + 256)) }
     ensures again { OnOk result (((C.view c.new pass.new).refused ≡ None)
@@ -80,7 +81,8 @@ fn post_tuple<C: Commons>(
     ensures others { KeepsOthers C.is_pass C.apart C.view c.old pass.old c.new pass.new }
     ensures texts { OnOk result ((n : ℕ) → HasPrinted (C.area_size c.old) (C.view c.old pass.old) n
         → HasPrinted (C.area_size c.new) (C.view c.new pass.new) n) }
-    ensures room { OnOk result ((C.view c.new pass.new).block_start + 250 ≡ (C.view c.new pass.new).block_end) }
+    ensures room { OnOk result ((C.view c.new pass.new).block_start + 250
+        ≡ (C.view c.new pass.new).block_end) }
     ensures again { OnOk result (((C.view c.new pass.new).refused ≡ None)
         × ((C.view c.new pass.new).unborn ≡ None)) }
     ensures same { OnOk result (((C.view c.new pass.new).pid ≡ (C.view c.old pass.old).pid)
