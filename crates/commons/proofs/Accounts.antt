@@ -120,7 +120,7 @@ accounts_add log xs y i r known h parent = record {
         (λ n. let z : k ≡ length xs = omega (arith, length-append xs (y ∷ [])) in
         (i, h, some_same (nth xs i).pid p (sym parent ∙ (ap (λ (x : Account). x.parent) (sym (get_or-append_seam xs y [] no_account)) ∙ (ap (λ (j : ℕ). (nth (xs ++ y ∷ []) j).parent) (sym z) ∙ e)))))
 
-total_map : (f : View → ℕ) (g : View → View) (xs : List View) → ((v : View) → f (g v) ≡ f v) → total f (map g xs) ≡ total f xs
+pub total_map : (f : View → ℕ) (g : View → View) (xs : List View) → ((v : View) → f (g v) ≡ f v) → total f (map g xs) ≡ total f xs
 total_map f g [] e = refl
 total_map f g (x ∷ xs) e = ap (λ (n : ℕ). n + total f (map g xs)) (e x) ∙ ap (λ (n : ℕ). f x + n) (total_map f g xs e)
 

@@ -9,7 +9,8 @@ use Rattle.std.proofs.lemmas.List.{get_or_append_left}
 use Rattle.hy_words.specs.Lists.{Has}
 use Rattle.commons.specs.declared.view.View.{View}
 use Rattle.commons.specs.Log.{actor_of, own_places}
-use Rattle.commons.specs.Rule.{one_if_some, refusals, IsSpawnAt, IsAccount, AreApart, At, HasParent, IsKept, bore, born_of}
+use Rattle.commons.specs.Rule.{one_if_some, refusals, IsSpawnAt, IsAccount, AreApart, At, HasParent, IsKept}
+use Rattle.commons.specs.Steps.{bore, born_of}
 use Rattle.commons.proofs.Begins.{last_of}
 use Rattle.commons.proofs.Owns.{own_names}
 use Rattle.commons.proofs.Rows.{set_here, each_set, pairs_set, same_pid, parents_set, total_set, at_longer, total_snoc, each_snoc, pairs_snoc}

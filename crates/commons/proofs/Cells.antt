@@ -4,7 +4,7 @@ use Rattle.std.specs.Prelude.{slice_index, if◌then◌else◌, ◌==◌}
 use native.Mathlib.Decide.{ℕ_discrete}
 use mathlib.Core.Logic.{dite}
 use Rattle.hy_words.specs.Lists.{Grown}
-use Rattle.hy_words.specs.Words.{tag_of, payload_of, size_of, IsHeader, IsScalar, IsValue, IsPidWord, IsCountWord, following}
+use Rattle.hy_words.specs.Words.{tag_of, payload_of, size_of, IsHeader, IsScalar, IsValue, IsTermHeader, IsEntryHeader, IsPidWord, IsCountWord, following}
 use Rattle.commons.specs.Area.{HasShape, IsWhole, IsTermCell, IsEntryCell}
 use Rattle.commons.specs.Log.{header_at, actor_of, text_of}
 
@@ -43,16 +43,16 @@ following_tuple w e = ap (λ (b : Bool). if b then size_of w else if tag_of w ==
 pub following_cons : (w : ℕ) → tag_of w ≡ 8 → following w ≡ 2
 following_cons w e = ap (λ (b : Bool). if b then size_of w else if tag_of w == 8 then 2 else payload_of w) (ne_eqb (tag_of w) 7 (λ z. omega arith)) ∙ ap (λ (b : Bool). if b then 2 else payload_of w) (eq-eqb (tag_of w) 8 e)
 
-pub following_entry : (w : ℕ) → 8 < tag_of w → following w ≡ payload_of w
-following_entry w h = ap (λ (b : Bool). if b then size_of w else if tag_of w == 8 then 2 else payload_of w) (ne_eqb (tag_of w) 7 (λ z. omega arith)) ∙ ap (λ (b : Bool). if b then 2 else payload_of w) (ne_eqb (tag_of w) 8 (λ z. omega arith))
+pub following_entry : (w : ℕ) → IsEntryHeader w → following w ≡ payload_of w
+following_entry w h = let low : 9 ≤ tag_of w = h.0 in ap (λ (b : Bool). if b then size_of w else if tag_of w == 8 then 2 else payload_of w) (ne_eqb (tag_of w) 7 (λ z. omega arith)) ∙ ap (λ (b : Bool). if b then 2 else payload_of w) (ne_eqb (tag_of w) 8 (λ z. omega arith))
 
 -- an entry has two words behind its header
 pub entry_two : (area : List ℕ) (cell : ℕ) → IsEntryCell area cell → 2 ≤ following (slice_index area cell)
 entry_two area cell h =
     let w : ℕ = slice_index area cell in
     let f : following w ≡ payload_of w = following_entry w h.1 in
-    let low : 8 < tag_of w = h.1 in
-    let high : tag_of w ≤ 11 = h.0.header.1 in
+    let low : 9 ≤ tag_of w = h.1.0 in
+    let high : tag_of w ≤ 11 = h.1.1 in
     dite (ℕ_discrete (tag_of w) 9)
     (λ e. let s = (h.0.shape.0 e).0 in omega arith)
     (λ n. dite (ℕ_discrete (tag_of w) 10) (λ e. let s = (h.0.shape.1 e).0 in omega arith) (λ o. let e : tag_of w ≡ 11 = omega arith in let s = (h.0.shape.2 e).0 in omega arith))
@@ -78,9 +78,9 @@ module _ (a b : List ℕ) (cell : ℕ) (g : Grown a b) where
       let e = header_same h in
       let tag : tag_of (slice_index b cell) ≡ tag_of (slice_index a cell) = ap tag_of e in
       let load : payload_of (slice_index b cell) ≡ payload_of (slice_index a cell) = ap payload_of e in (
-        (λ t. let u : tag_of (slice_index a cell) ≡ 9 = sym tag ∙ t in let s = h.shape.0 u in let entry : IsEntryCell a cell = (h, omega arith) in (load ∙ s.0, subst IsPidWord (sym (first_same entry)) s.1, subst IsPidWord (sym (second_same entry)) s.2)),
-        (λ t. let u : tag_of (slice_index a cell) ≡ 10 = sym tag ∙ t in let s = h.shape.1 u in let entry : IsEntryCell a cell = (h, omega arith) in (subst (λ (n : ℕ). 2 ≤ n) (sym load) s.0, subst IsPidWord (sym (first_same entry)) s.1, subst IsCountWord (sym (second_same entry)) s.2)),
-        (λ t. let u : tag_of (slice_index a cell) ≡ 11 = sym tag ∙ t in let s = h.shape.2 u in let entry : IsEntryCell a cell = (h, omega arith) in (load ∙ s.0, subst IsPidWord (sym (first_same entry)) s.1, subst IsCountWord (sym (second_same entry)) s.2)),
+        (λ t. let u : tag_of (slice_index a cell) ≡ 9 = sym tag ∙ t in let s = h.shape.0 u in let entry : IsEntryCell a cell = (h, (omega arith, omega arith)) in (load ∙ s.0, subst IsPidWord (sym (first_same entry)) s.1, subst IsPidWord (sym (second_same entry)) s.2)),
+        (λ t. let u : tag_of (slice_index a cell) ≡ 10 = sym tag ∙ t in let s = h.shape.1 u in let entry : IsEntryCell a cell = (h, (omega arith, omega arith)) in (subst (λ (n : ℕ). 2 ≤ n) (sym load) s.0, subst IsPidWord (sym (first_same entry)) s.1, subst IsCountWord (sym (second_same entry)) s.2)),
+        (λ t. let u : tag_of (slice_index a cell) ≡ 11 = sym tag ∙ t in let s = h.shape.2 u in let entry : IsEntryCell a cell = (h, (omega arith, omega arith)) in (load ∙ s.0, subst IsPidWord (sym (first_same entry)) s.1, subst IsCountWord (sym (second_same entry)) s.2)),
       )
 
   pub whole_grows : IsWhole a cell → IsWhole b cell
@@ -91,10 +91,10 @@ module _ (a b : List ℕ) (cell : ℕ) (g : Grown a b) where
   }
 
   pub term_grows : IsTermCell a cell → IsTermCell b cell
-  term_grows h = (whole_grows h.0, subst (λ (w : ℕ). tag_of w < 9) (sym (header_same h.0)) h.1)
+  term_grows h = (whole_grows h.0, subst IsTermHeader (sym (header_same h.0)) h.1)
 
   pub entry_grows : IsEntryCell a cell → IsEntryCell b cell
-  entry_grows h = (whole_grows h.0, subst (λ (w : ℕ). 8 < tag_of w) (sym (header_same h.0)) h.1)
+  entry_grows h = (whole_grows h.0, subst IsEntryHeader (sym (header_same h.0)) h.1)
 
 -- what an entry tells of its actor, its kind and its text stays
 pub header_grows : (a b : List ℕ) (w : ℕ) → Grown a b → IsEntryCell a (payload_of w) → header_at b w ≡ header_at a w

@@ -8,11 +8,10 @@ use Rattle.hy_words.specs.Lists.{Has, total}
 use Rattle.commons.specs.declared.view.View.{View}
 use Rattle.commons.specs.Log.{own_places}
 use Rattle.commons.specs.Rule.{At, IsKept, one_if_some}
-use Rattle.commons.specs.Closing.{HasChildren, IsLeft}
+use Rattle.commons.specs.Closing.{HasChildren}
 use Rattle.commons.proofs.Rows.{Once}
 use Rattle.commons.proofs.Gathers.{Within, same_total}
 use Rattle.commons.proofs.Owns.{own_has}
-use Rattle.commons.proofs.Steps.{fits_at}
 
 abbrev pub pid_of : View → ℕ
 pid_of v = v.pid
@@ -72,19 +71,3 @@ module _ (a l c : ℕ) (log area : List ℕ) (views xs : List View) (r : IsKept 
     all_puts = r.all_puts ∙ sums (λ (v : View). v.puts);
     few = let s = sums (λ (v : View). one_if_some v.unborn) in let n = sums (λ (v : View). 1) in let p = count views in let q = count xs in let f = r.few in omega arith;
   }
-
-  -- what is left where the passes of the list are joined
-  pub left : IsLeft a l c log area xs
-  left =
-      let k = kept_by_list in record {
-        rule = k;
-        fits = λ j v at. let w = within j v at in fits_at a l c w.0 log area views v r w.1;
-        begins = λ j v at. (k.each j v at).knows.begins;
-        actors = k.actors;
-        pids = λ i j v w e f same. once i j v w e f same;
-        own = λ j v at. (k.each j v at).owns.exact;
-        own_known = λ j v place at h. (k.each j v at).owns.own_known place h;
-        all_requests = k.all_requests;
-        refused = λ j v x at e. (k.each j v at).refusal x e;
-        all_puts = k.all_puts;
-      }

@@ -1,16 +1,11 @@
 -- A commons at whose end there are the first pass and one child.
 use Rattle.std.proofs.Common.{◌≡◌, ℕ, zero, suc, ◌<◌, List, [], ◌∷◌, length, map, get_or, sym, refl, ap, ◌∙◌, subst, arith}
-use Rattle.std.specs.Prelude.{slice_index, Option, Some, None, IfSome, IfNone, ◌+◌}
 use Rattle.std.specs.List.{All, AllPairs}
 use mathlib.Core.Option.{some-injective, some-ne-none}
 use Rattle.hy_words.specs.Lists.{Has}
 use Rattle.commons.specs.declared.view.View.{View}
 use Rattle.commons.specs.declared.plain.PlainCommons.{PlainCommons}
 use Rattle.commons.specs.declared.plain.PlainPass.{PlainPass}
-use Rattle.hy_words.specs.Words.{payload_of, area_word_of}
-use Rattle.commons.specs.Log.{header_at, HasPrintWords}
-use Rattle.commons.specs.Changes.{Learns, LooksInVain, child_at}
-use Rattle.commons.proofs.Grows.{area_word_place}
 use Rattle.commons.specs.Rule.{At}
 use Rattle.commons.specs.Closing.{HasChildren}
 use Rattle.commons.specs.Plain.{IsPassIn, IsApartIn, view_in}
@@ -51,14 +46,3 @@ family v w q root born pid none = record { first = (0, v, refl, root); children 
 
 pub one_child : (c : PlainCommons) (p q : PlainPass) (ps : List PlainPass) (pid : ℕ) → ps ≡ p ∷ q ∷ [] → (view_in c p).pid ≡ 0 → (view_in c p).born ≡ pid ∷ [] → (view_in c q).pid ≡ pid → (view_in c q).born ≡ [] → HasChildren (map (view_in c) ps)
 one_child c p q ps pid e root born named none = subst (λ (rs : List PlainPass). HasChildren (map (view_in c) rs)) (sym e) (family (view_in c p) (view_in c q) pid root born named none)
-
--- a look changes neither the pid nor the children
-pub look_keeps : (o : Option ℕ) (v w : View) → IfSome o (λ place. (length w.known ≡ place + 1) × Learns v w.known w) → IfNone o (LooksInVain v w) → (w.pid ≡ v.pid) × (w.born ≡ v.born)
-look_keeps None v w some none = (ap (λ (u : View). u.pid) none.0.0, ap (λ (u : View). u.born) none.0.0)
-look_keeps (Some place) v w some none = (ap (λ (u : View). u.pid) some.1.0, ap (λ (u : View). u.born) some.1.0)
-
--- a print entry names no child
-pub print_names_none : (seen : List ℕ) (place at entry actor text : ℕ) → HasPrintWords seen at actor text → entry ≡ area_word_of at → child_at (header_at seen entry) place ≡ None
-print_names_none seen place at entry actor text words e =
-    let header : header_at seen entry ≡ 43 = ap (slice_index seen) (ap payload_of e ∙ area_word_place at) ∙ words.0 in
-    ap (λ (h : ℕ). child_at h place) header

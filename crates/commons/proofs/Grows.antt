@@ -1,5 +1,5 @@
 -- The area, the log and what a pass knows, after a word was put and after an entry was appended.
-use Rattle.std.proofs.Common.{◌≡◌, ◌≢◌, ◌⊎◌, ℕ, zero, suc, ◌+◌, ◌*◌, ◌<◌, ◌≤◌, List, [], ◌∷◌, ◌++◌, length, set, take, length-append, lt_of_not-le, get_or-set_other, get_or-set_same, sym, refl, ap, ◌∙◌, inl, inr, ⊎_elim, subst, arith, Bool, lit<, ne_eqb}
+use Rattle.std.proofs.Common.{◌≡◌, ◌≢◌, ◌⊎◌, ℕ, zero, suc, ◌+◌, ◌*◌, ◌<◌, ◌≤◌, List, [], ◌∷◌, ◌++◌, length, set, take, length-append, lt_of_not-le, get_or-set_other, get_or-set_same, sym, refl, ap, ◌∙◌, inl, inr, ⊎_elim, subst, arith, Bool, lit<, ne_eqb, le_refl}
 use Rattle.std.proofs.Math.Seq.{take-append_seam}
 use Rattle.std.proofs.lemmas.List.{get_or_append_left, get_or-take, take-append-le, length-take-le}
 use Rattle.std.specs.Prelude.{slice_index, if◌then◌else◌, ◌==◌, ◌&&◌}
@@ -9,7 +9,7 @@ use Rattle.hy_words.specs.Lists.{Grown, StartsWith, Has}
 use Rattle.hy_words.specs.Words.{tag_of, payload_of, area_word_of, IsHeader, IsScalar, IsValue}
 use Rattle.commons.specs.declared.view.View.{View}
 use Rattle.commons.specs.Area.{IsWhole, IsTermCell, IsEntryCell, IsClosed, StandsInArea}
-use Rattle.commons.specs.Log.{header_at, actor_of, text_of, own_places, is_print_of, prints, IsLog}
+use Rattle.commons.specs.Log.{header_at, actor_of, text_of, own_places, is_print_of, prints, LogEvent, Tells, IsLog}
 use Rattle.commons.specs.Views.{KnowsCellBy, FitsBy, Fits, MayPut}
 use Rattle.commons.specs.Rule.{written}
 use Rattle.commons.proofs.Begins.{last_of}
@@ -88,6 +88,20 @@ knows_whole l log area known seen cell closed entries begins agrees h = ⊎_elim
     t)
     h
 
+-- what begins a log is a log
+pub log_begins : (l : ℕ) (log area known : List ℕ) → IsLog l log area → StartsWith log known → IsLog (length known) known area
+log_begins l log area known r begins =
+    let long = known_length log known begins in
+    let in_log : (k : ℕ) → k < length known → k < length log = λ k h. omega arith in
+    let same : (k : ℕ) → k < length known → slice_index log k ≡ slice_index known k = λ k h. known_in_log log known k begins h in record {
+      short = le_refl (length known);
+      entries = λ k h. subst (λ (w : ℕ). (tag_of w ≡ 6) × IsEntryCell area (payload_of w)) (same k h) (r.entries k (in_log k h));
+      events = λ k h. subst (λ (w : ℕ). (e : LogEvent) × Tells area (payload_of w) e) (same k h) (r.events k (in_log k h));
+      numbered = λ k h.
+          let before : take k log ≡ take k known = ap (take k) begins.1 ∙ take-append-le k known begins.0 (let z : k ≤ length known = omega arith in z) in
+          subst (λ (t : ℕ × List ℕ). tag_of (header_at area t.0) ≡ 11 → text_of area t.0 ≡ prints area (actor_of area t.0) t.1) (λ i. (same k h i, before i)) (r.numbered k (in_log k h));
+    }
+
 -- the area fits a pass that knows a beginning of the log and words of the area
 pub fits_by : (a l : ℕ) (log area known seen : List ℕ) → length area ≡ a → IsClosed area → IsLog l log area → StartsWith log known → Grown seen area → FitsBy a known seen area
 fits_by a l log area known seen sized closed entries begins agrees = record {
@@ -95,6 +109,7 @@ fits_by a l log area known seen sized closed entries begins agrees = record {
   closed = closed;
   agrees = agrees;
   whole = λ cell h. knows_whole l log area known seen cell closed entries begins agrees h;
+  log = log_begins l log area known entries begins;
 }
 
 pub put_not_zero : (a : ℕ) (v : View) (word : ℕ) → MayPut a v word → word ≢ 0
@@ -106,7 +121,7 @@ put_shape a v word h = ⊎_elim (λ (x : IsHeader word). inl x) (λ t. ⊎_elim 
 -- the cell of an area word that may be put
 pub put_names : (a : ℕ) (v : View) (word : ℕ) (area : List ℕ) → Fits a v area → MayPut a v word → tag_of word ≡ 6 → IsTermCell area (payload_of word)
 put_names a v word area f h six = ⊎_elim (λ (x : IsHeader word). let t = x.0 in absurd (omega arith))
-    (λ t. ⊎_elim (λ (x : IsScalar word). let y = x.1 in absurd (omega arith)) (λ u. let at : u.0 ≡ payload_of word = sym (ap payload_of u.1 ∙ area_word_place u.0) in subst (λ (x : ℕ). IsTermCell area x) at (f.whole u.0 u.2, u.3 area f)) t) h
+    (λ t. ⊎_elim (λ (x : IsScalar word). let y = x.1 in absurd (omega arith)) (λ u. let at : u.0 ≡ payload_of word = sym (ap payload_of u.1 ∙ area_word_place u.0) in subst (λ (x : ℕ). IsTermCell area x) at (f.whole u.0 u.2.0, u.2.1 area f)) t) h
 
 -- a word is put into a closed area
 module _ (area : List ℕ) (p word : ℕ) (closed : IsClosed area) (shape : IsHeader word ⊎ IsValue word) (names : tag_of word ≡ 6 → IsTermCell area (payload_of word)) (inside : p < length area) (free : slice_index area p ≡ 0) where

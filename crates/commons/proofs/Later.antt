@@ -1,14 +1,15 @@
 -- A pass that knows more: what it knew, it knows; what it might put, it may put; and fewer areas fit it.
-use Rattle.std.proofs.Common.{◌≡◌, ◌≢◌, ◌⊎◌, ℕ, ◌<◌, List, [], ◌++◌, length, sym, ap, ◌∙◌, inl, inr, ⊎_elim, arith, length-append, append-nil, append_assoc}
+use Rattle.std.proofs.Common.{◌≡◌, ◌≢◌, ◌⊎◌, ℕ, List, [], ◌++◌, length, sym, ap, ◌∙◌, inl, inr, ⊎_elim, arith, length-append, append-nil, append_assoc}
 use Rattle.std.specs.Prelude.{slice_index}
 use Rattle.std.proofs.lemmas.List.{get_or_append_left}
 use Rattle.hy_words.specs.Lists.{Grown, Has, StartsWith}
-use Rattle.hy_words.specs.Words.{tag_of, area_word_of, IsHeader, IsScalar}
+use Rattle.hy_words.specs.Words.{area_word_of, IsHeader, IsScalar}
 use Rattle.commons.specs.declared.view.View.{View}
 use Rattle.commons.specs.Area.{IsWhole}
-use Rattle.commons.specs.Views.{KnowsCell, Fits, KnowsPlace, MayPut}
-use Rattle.commons.specs.Changes.{Puts}
+use Rattle.commons.specs.Views.{KnowsCell, Fits, KnowsPlace, KnowsMore, KnowsTerm, MayPut, MayShare}
+use Rattle.commons.specs.Changes.{Claims, IsSameButSeen, PutsWords}
 use Rattle.commons.proofs.Cells.{whole_grows, grown_on, inside_of}
+use Rattle.commons.proofs.Grows.{log_begins}
 
 module _ (capacity : ℕ) (v w : View) (more : StartsWith w.known v.known) (grown : Grown v.seen w.seen) where
   known_on : (x : ℕ) → Has v.known x → Has w.known x
@@ -29,33 +30,39 @@ module _ (capacity : ℕ) (v w : View) (more : StartsWith w.known v.known) (grow
       (λ (t : Has v.known (area_word_of cell) ⊎ Has v.seen (area_word_of cell)). inr (⊎_elim (λ (x : Has v.known (area_word_of cell)). inl (known_on (area_word_of cell) x)) (λ (x : Has v.seen (area_word_of cell)). inr (seen_on cell x)) t)) h
 
   pub fits_before : (area : List ℕ) → Fits capacity w area → Fits capacity v area
-  fits_before area f = record { sized = f.sized; closed = f.closed; agrees = grown_on v.seen w.seen area grown f.agrees; whole = λ cell h. f.whole cell (knows_on cell h) }
+  fits_before area f = record { sized = f.sized; closed = f.closed; agrees = grown_on v.seen w.seen area grown f.agrees; whole = λ cell h. f.whole cell (knows_on cell h); log = log_begins (length w.known) w.known area v.known f.log more }
 
   pub knows_place_on : (place : ℕ) → KnowsPlace capacity v place → KnowsPlace capacity w place
   knows_place_on place h = (h.0, knows_on h.0 h.1, λ area f. h.2 area (fits_before area f))
 
-  pub may_put_on : (word : ℕ) → MayPut capacity v word → MayPut capacity w word
-  may_put_on word h = ⊎_elim (λ (x : IsHeader word). inl x)
-      (λ (t : IsScalar word ⊎ ((cell : ℕ) × (word ≡ area_word_of cell) × KnowsCell v cell × ((area : List ℕ) → Fits capacity v area → tag_of (slice_index area cell) < 9))). ⊎_elim
-      (λ (x : IsScalar word). inr (inl x))
-      (λ (x : (cell : ℕ) × (word ≡ area_word_of cell) × KnowsCell v cell × ((area : List ℕ) → Fits capacity v area → tag_of (slice_index area cell) < 9)). inr (inr (x.0, x.1, knows_on x.0 x.2, λ area f. x.3 area (fits_before area f))))
-      t) h
+  pub may_share_on : (word : ℕ) → MayShare capacity v word → MayShare capacity w word
+  may_share_on word h = ⊎_elim (λ (x : IsScalar word). inl x)
+      (λ (x : (cell : ℕ) × (word ≡ area_word_of cell) × KnowsTerm capacity v cell). inr (x.0, x.1, (knows_on x.0 x.2.0, λ area f. x.2.1 area (fits_before area f)))) h
 
-starts_same : (xs ys : List ℕ) → ys ≡ xs → StartsWith ys xs
+  pub may_put_on : (word : ℕ) → MayPut capacity v word → MayPut capacity w word
+  may_put_on word h = ⊎_elim (λ (x : IsHeader word). inl x) (λ (x : MayShare capacity v word). inr (may_share_on word x)) h
+
+pub starts_same : (xs ys : List ℕ) → ys ≡ xs → StartsWith ys xs
 starts_same xs ys e = ([], e ∙ sym (append-nil xs))
 
 starts_on : (a b c : List ℕ) → StartsWith b a → StartsWith c b → StartsWith c a
 starts_on a b c f g = (f.0 ++ g.0, g.1 ∙ (ap (λ (x : List ℕ). x ++ g.0) f.1 ∙ append_assoc a f.0 g.0))
 
--- a view that knows no less
-abbrev pub KnowsMore : View → View → Type 0
-KnowsMore v w = StartsWith w.known v.known × Grown v.seen w.seen
-
 pub more_on : (a b c : View) → KnowsMore a b → KnowsMore b c → KnowsMore a c
 more_on a b c f g = (starts_on a.known b.known c.known f.0 g.0, grown_on a.seen b.seen c.seen f.1 g.1)
 
-pub put_more : (a b : View) (word : ℕ) → Puts a word b → KnowsMore a b
-put_more a b word p = (starts_same a.known b.known (ap (λ (v : View). v.known) p.0), p.1)
+-- words were put
+pub puts_more : (a b : View) (n : ℕ) → PutsWords a n b → KnowsMore a b
+puts_more a b n p = (starts_same a.known b.known (ap (λ (v : View). v.known) p.0), p.1)
+
+pub same_more : (v w : View) → IsSameButSeen v w → KnowsMore v w
+same_more v w p = (starts_same v.known w.known (ap (λ (u : View). u.known) p.0), p.1)
+
+pub claims_more : (a b : View) (old n : ℕ) → Claims a old n b → KnowsMore a b
+claims_more a b old n p = (starts_same a.known b.known (ap (λ (v : View). v.known) p.0), p.1)
+
+pub may_share_later : (capacity : ℕ) (v w : View) (word : ℕ) → KnowsMore v w → MayShare capacity v word → MayShare capacity w word
+may_share_later capacity v w word m h = may_share_on capacity v w m.0 m.1 word h
 
 pub may_put_later : (capacity : ℕ) (v w : View) (word : ℕ) → KnowsMore v w → MayPut capacity v word → MayPut capacity w word
 may_put_later capacity v w word m h = may_put_on capacity v w m.0 m.1 word h

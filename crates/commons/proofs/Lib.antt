@@ -6,6 +6,7 @@ pub mod Terms
 pub mod Grows
 pub mod Owns
 pub mod Steps
+pub mod Counts
 pub mod Births
 pub mod Closes
 pub mod Accounts
@@ -16,6 +17,7 @@ pub mod PlainOpens
 pub mod PlainCloses
 pub mod Later
 pub mod Rowed
-pub mod Families
-mod Readings
-mod Forks
+pub mod Printing
+pub mod Events
+mod Families
+pub mod Readings

@@ -1,5 +1,5 @@
 -- The places of an actor's entries.
-use Rattle.std.proofs.Common.{◌≡◌, ◌⊎◌, ℕ, zero, suc, ◌+◌, ◌<◌, List, [], ◌∷◌, length, sym, refl, ap, ◌∙◌, inl, inr, ⊎_elim, subst, arith, Bool, true, false, eq-eqb, ne_eqb}
+use Rattle.std.proofs.Common.{◌≡◌, ◌⊎◌, ℕ, zero, suc, ◌+◌, ◌<◌, List, [], ◌∷◌, ◌++◌, length, sym, refl, ap, ◌∙◌, inl, inr, ⊎_elim, subst, arith, Bool, true, false, eq-eqb, ne_eqb}
 use Rattle.std.specs.Prelude.{slice_index, if◌then◌else◌, ◌==◌, ◌&&◌}
 use Rattle.std.proofs.lemmas.List.{get_or_append_left}
 use native.Mathlib.Decide.{ℕ_discrete}
@@ -70,3 +70,15 @@ prints_more area log known (p ∷ ps) s h =
     let at : slice_index log p ≡ slice_index known p = ap (λ (xs : List ℕ). slice_index xs p) s.1 ∙ get_or_append_left known s.0 0 p (h p (0, omega arith, refl)) in
     ap (λ (x : ℕ). (if tag_of (header_at area x) == 11 then 1 else 0) + prints_at area log ps) at
     ∙ ap (λ (n : ℕ). (if tag_of (header_at area (slice_index known p)) == 11 then 1 else 0) + n) (prints_more area log known ps s (λ place i. h place (behind p place ps i)))
+
+-- with one place more
+pub prints_last : (area log own : List ℕ) (place : ℕ) → prints_at area log (own ++ place ∷ []) ≡ prints_at area log own + (if tag_of (header_at area (slice_index log place)) == 11 then 1 else 0)
+prints_last area log [] place = let bit : ℕ = (if tag_of (header_at area (slice_index log place)) == 11 then 1 else 0) in let g : bit + 0 ≡ 0 + bit = omega arith in g
+prints_last area log (p ∷ ps) place =
+    let r = prints_last area log ps place in
+    let bit : ℕ = (if tag_of (header_at area (slice_index log place)) == 11 then 1 else 0) in
+    let first : ℕ = (if tag_of (header_at area (slice_index log p)) == 11 then 1 else 0) in
+    let old : ℕ = prints_at area log ps in
+    let new : ℕ = prints_at area log (ps ++ place ∷ []) in
+    let r' : new ≡ old + bit = r in
+    let g : first + new ≡ first + old + bit = omega arith in g

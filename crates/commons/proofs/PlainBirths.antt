@@ -13,8 +13,10 @@ use Rattle.commons.specs.declared.plain.Account.{Account}
 use Rattle.commons.specs.declared.plain.PlainCommons.{PlainCommons}
 use Rattle.commons.specs.declared.plain.PlainPass.{PlainPass}
 use Rattle.commons.specs.Log.{own_places}
-use Rattle.commons.specs.Changes.{KeepsOthers, IsApartFrom, IsChildOf, Bears}
-use Rattle.commons.specs.Rule.{At, IsKept, bore, born_of, gave_up}
+use Rattle.commons.specs.Views.{IsAreaSize, IsLogSize}
+use Rattle.commons.specs.Changes.{KeepsOthers, IsApartFrom, IsChildOf, Bears, GivesUp}
+use Rattle.commons.specs.Rule.{At, IsKept}
+use Rattle.commons.specs.Steps.{bore, born_of, gave_up}
 use Rattle.commons.specs.Plain.{children_of, shown, no_account, account_in, shown_in, view_in, views_in, area_size_in, log_size_in, AreAccounts, IsPassIn, IsApartIn}
 use Rattle.commons.proofs.Births.{births_kept}
 use Rattle.commons.proofs.Cells.{grown_same}
@@ -25,7 +27,7 @@ use Rattle.commons.proofs.PlainKeeps.{here, a_pass, stays}
 
 -- no memory: the parent names no child
 pub gave_up_step : (c d : PlainCommons) (p : PlainPass) (x : Account) → IsPassIn c p → d.log_size ≡ c.log_size → d.area.items ≡ c.area.items → d.log.items ≡ c.log.items → d.claim ≡ c.claim → c.log_size ≤ vec_capacity d.log → d.accounts.items ≡ set c.accounts.items p.slot x
-    → x ≡ record (account_in c p) { unborn = None } → KeepsOthers IsPassIn IsApartIn view_in c p d p × Bears (view_in c p) (view_in c p).born (view_in d p)
+    → x ≡ record (account_in c p) { unborn = None } → KeepsOthers IsPassIn IsApartIn view_in c p d p × GivesUp (view_in c p) (view_in d p)
 gave_up_step c d p x h size area log claim room accounts is =
     let v : View = view_in c p in
     let kept = gave_up_kept (area_size_in c) (log_size_in c) c.claim p.slot c.log.items c.area.items (views_in c) v h.kept (here c p h) in
@@ -39,7 +41,7 @@ child_account y q = record { pid = q; parent = Some y.pid; known = y.known; unbo
 -- a child is born: its account stands behind the others
 pub birth_step : (c d : PlainCommons) (p child : PlainPass) (q : ℕ) → IsPassIn c p → (view_in c p).unborn ≡ Some q → d.log_size ≡ c.log_size → d.area.items ≡ c.area.items → d.log.items ≡ c.log.items → d.claim ≡ c.claim → c.log_size ≤ vec_capacity d.log
     → d.accounts.items ≡ set c.accounts.items p.slot (record (account_in c p) { unborn = None }) ++ child_account (account_in c p) q ∷ [] → child.slot ≡ length c.accounts.items → child.pid ≡ q
-    → KeepsOthers IsPassIn IsApartIn view_in c p d p × (IsPassIn d child × IsApartFrom IsPassIn IsApartIn c p p child) × IsChildOf (view_in c p) q (view_in d child) × Bears (view_in c p) ((view_in c p).born ++ q ∷ []) (view_in d p)
+    → KeepsOthers IsPassIn IsApartIn view_in c p d p × (IsPassIn d child × IsApartFrom IsPassIn IsApartIn c p p child) × IsChildOf (view_in c p) q (view_in d child) × Bears (view_in c p) q (view_in d p)
 birth_step c d p child q h names size area log claim room accounts slot pid =
     let xs : List Account = c.accounts.items in
     let words : List ℕ = c.log.items in
@@ -84,13 +86,13 @@ birth_step c d p child q h names size area log claim room accounts slot pid =
     let below : (k : ℕ) → k < length xs → k < length d.accounts.items = λ k l. omega arith in
     let parent_there : p.slot < length d.accounts.items = below p.slot h.there in
     let child_there : child.slot < length d.accounts.items = omega arith in
-    let low_log : d.log_size ≤ 4194304 = let l = h.log_low in omega arith in
+    let log_size : IsLogSize (log_size_in d) = subst IsLogSize (sym size) h.log_size in
     let reserved : d.log_size ≤ vec_capacity d.log = omega arith in
     let all : (words, (cells, ys)) ≡ (d.log.items, (d.area.items, d.accounts.items)) = λ i. (sym log i, (sym area i, sym accounts i)) in
     let kept : IsKept (area_size_in d) (log_size_in d) d.claim d.log.items d.area.items (views_in d) =
     subst (λ (t : List ℕ × (List ℕ × List Account)). IsKept (length t.1.0) (log_size_in d) d.claim t.0 t.1.0 (map (shown t.0 t.1.0 t.1.1) t.1.1)) all
     (subst (λ (s : ℕ × (ℕ × List View)). IsKept (length cells) s.0 s.1.0 words cells s.1.1) (λ i. (sym size i, (sym claim i, sym views i))) rule) in
-    let low_area : length d.area.items ≤ 67108864 = subst (λ (a : List ℕ). length a ≤ 67108864) (sym area) h.area_low in
+    let area_size : IsAreaSize (area_size_in d) = subst (λ (a : List ℕ). IsAreaSize (length a)) (sym area) h.area_size in
     let rows_d : AreAccounts d.log.items d.accounts.items = subst (λ (t : List ℕ × (List ℕ × List Account)). AreAccounts t.0 t.1.1) all rows in
     let at : (k : ℕ) → k < length xs → nth d.accounts.items k ≡ nth mid k = λ k l. ap (λ (ws : List Account). nth ws k) accounts ∙ get_or_append_left mid (z ∷ []) no_account k (inside k l) in
     let at_p : account_in d p ≡ x = at p.slot h.there ∙ at_mid in
@@ -99,18 +101,18 @@ birth_step c d p child q h names size area log claim room accounts slot pid =
     let grown : Grown cells d.area.items = subst (Grown cells) (sym area) (grown_same cells) in
     let seen : (w : View) (u : View) → w ≡ record u { seen = cells } → w ≡ record u { seen = d.area.items } = λ w u e. e ∙ ap (λ (a : List ℕ). record u { seen = a }) (sym area) in (
       (
-        a_pass d p parent_there (ap (λ (w : Account). w.pid) at_p ∙ h.pid) low_area low_log reserved rows_d kept,
+        a_pass d p parent_there (ap (λ (w : Account). w.pid) at_p ∙ h.pid) area_size log_size reserved rows_d kept,
         λ r hr apart.
             let r_there = below r.slot hr.there in
             let other : r.slot ≢ p.slot = λ e. apart (sym h.pid ∙ (ap (λ (k : ℕ). (nth xs k).pid) (sym e) ∙ hr.pid)) in
             let at_r : account_in d r ≡ account_in c r = at r.slot hr.there ∙ get_or-set_other xs p.slot r.slot x no_account other in (
-              a_pass d r r_there (ap (λ (w : Account). w.pid) at_r ∙ hr.pid) low_area low_log reserved rows_d kept,
+              a_pass d r r_there (ap (λ (w : Account). w.pid) at_r ∙ hr.pid) area_size log_size reserved rows_d kept,
               apart,
               (seen (view_in d r) (view_in c r) (ap (shown_in d) at_r ∙ (shows (account_in c r) ∙ others r.slot other hr.there)), grown),
             ),
       ),
       (
-        a_pass d child child_there (ap (λ (w : Account). w.pid) at_child ∙ sym pid) low_area low_log reserved rows_d kept,
+        a_pass d child child_there (ap (λ (w : Account). w.pid) at_child ∙ sym pid) area_size log_size reserved rows_d kept,
         ((λ e. mine (h.pid ∙ (e ∙ pid))), λ r hr apart e. free r.slot hr.there (hr.pid ∙ (sym e ∙ pid))),
       ),
       (seen (view_in d child) (born_of v q) (ap (shown_in d) at_child ∙ (shows z ∙ born)), grown),
@@ -122,12 +124,12 @@ with_accounts c xs = record c { accounts = xs }
 
 -- the same where the accounts are what a push left
 pub gave_up_with : (c : PlainCommons) (p : PlainPass) (xs : Vec Account) (y : Account) → IsPassIn c p → account_in c p ≡ y → xs.items ≡ set c.accounts.items p.slot (record y { unborn = None })
-    → KeepsOthers IsPassIn IsApartIn view_in c p (with_accounts c xs) p × Bears (view_in c p) (view_in c p).born (view_in (with_accounts c xs) p)
+    → KeepsOthers IsPassIn IsApartIn view_in c p (with_accounts c xs) p × GivesUp (view_in c p) (view_in (with_accounts c xs) p)
 gave_up_with c p xs y h is items = gave_up_step c (with_accounts c xs) p (record y { unborn = None }) h refl refl refl refl h.reserved items (ap (λ (z : Account). record z { unborn = None }) (sym is))
 
 pub birth_with : (c : PlainCommons) (p : PlainPass) (xs : Vec Account) (y : Account) (pid slot q : ℕ) → IsPassIn c p → account_in c p ≡ y → (view_in c p).unborn ≡ Some q → pid ≡ q → slot ≡ length c.accounts.items → xs.items ≡ set c.accounts.items p.slot (record y { unborn = None }) ++ child_account y pid ∷ []
     → KeepsOthers IsPassIn IsApartIn view_in c p (with_accounts c xs) p × (IsPassIn (with_accounts c xs) (record { slot = slot; pid = pid }) × IsApartFrom IsPassIn IsApartIn c p p (record { slot = slot; pid = pid }))
-    × IsChildOf (view_in c p) q (view_in (with_accounts c xs) (record { slot = slot; pid = pid })) × Bears (view_in c p) ((view_in c p).born ++ q ∷ []) (view_in (with_accounts c xs) p)
+    × IsChildOf (view_in c p) q (view_in (with_accounts c xs) (record { slot = slot; pid = pid })) × Bears (view_in c p) q (view_in (with_accounts c xs) p)
 birth_with c p xs y pid slot q h is names named place items =
     birth_step c (with_accounts c xs) p (record { slot = slot; pid = pid }) q h names refl refl refl refl h.reserved
     (items ∙ ap (λ (t : Account × ℕ). set c.accounts.items p.slot (record t.0 { unborn = None }) ++ child_account t.0 t.1 ∷ []) (λ i. (sym is i, named i))) place named

@@ -1,20 +1,18 @@
 -- The plain form keeps the rule, and leaves other passes as they were.
-use Rattle.std.proofs.Common.{◌≡◌, ◌≢◌, ℕ, zero, suc, ◌+◌, ◌*◌, ◌^◌, ◌<◌, ◌≤◌, List, [], ◌∷◌, length, get_or, set, map, length-set, get_or-set_other, get_or-set_same, sym, refl, ap, ◌∙◌, subst, arith, le_refl, le_trans, lit≤, Bool, true, false, append-nil}
-use Rattle.std.specs.Prelude.{if◌then◌else◌, ◌==◌, vec_capacity}
+use Rattle.std.proofs.Common.{◌≡◌, ◌≢◌, ℕ, ◌^◌, ◌<◌, ◌≤◌, List, [], length, get_or, set, map, length-set, get_or-set_other, get_or-set_same, sym, refl, ap, ◌∙◌, subst, arith, append-nil}
+use Rattle.std.specs.Prelude.{vec_capacity}
 use Rattle.std.proofs.lemmas.List.{map-set, length-take-le}
-use Rattle.std.proofs.lemmas.Nat.{mul-le}
-use mathlib.Core.Option.{some-injective, some-ne-none}
-use Rattle.hy_words.specs.Lists.{Grown, StartsWith, total}
+use Rattle.hy_words.specs.Lists.{Grown, StartsWith}
 use Rattle.commons.specs.declared.view.View.{View}
 use Rattle.commons.specs.declared.plain.Account.{Account}
 use Rattle.commons.specs.declared.plain.PlainCommons.{PlainCommons}
 use Rattle.commons.specs.declared.plain.PlainPass.{PlainPass}
-use Rattle.commons.specs.Views.{Fits}
+use Rattle.commons.specs.Views.{Fits, IsAreaSize, IsLogSize}
 use Rattle.commons.specs.Changes.{KeepsOthers}
-use Rattle.commons.specs.Rule.{At, IsKept, refusals, written}
+use Rattle.commons.specs.Rule.{At, IsKept}
 use Rattle.commons.specs.Plain.{children_of, shown, no_account, account_in, shown_in, view_in, views_in, area_size_in, log_size_in, AreAccounts, IsPassIn, IsApartIn}
-use Rattle.commons.proofs.Begins.{at_most_one}
 use Rattle.commons.proofs.Cells.{grown_same}
+use Rattle.commons.proofs.Counts.{claims_low, one_of, written_le}
 use Rattle.commons.proofs.Grows.{known_length}
 use Rattle.commons.proofs.Steps.{fits_at, sound_at}
 use Rattle.commons.proofs.Accounts.{nth, at_map, map_same, map_except, any_default, children_set, accounts_set, with_seen}
@@ -30,17 +28,17 @@ pub known_is : (c : PlainCommons) (p : PlainPass) → IsPassIn c p → length (v
 known_is c p h = length-take-le (account_in c p).known c.log.items (h.accounts.known p.slot h.there)
 
 -- a pass is one where its account is there and the rule holds
-pub a_pass : (d : PlainCommons) (p : PlainPass) → p.slot < length d.accounts.items → (account_in d p).pid ≡ p.pid → length d.area.items ≤ 67108864 → d.log_size ≤ 4194304 → d.log_size ≤ vec_capacity d.log → AreAccounts d.log.items d.accounts.items
+pub a_pass : (d : PlainCommons) (p : PlainPass) → p.slot < length d.accounts.items → (account_in d p).pid ≡ p.pid → IsAreaSize (area_size_in d) → IsLogSize (log_size_in d) → d.log_size ≤ vec_capacity d.log → AreAccounts d.log.items d.accounts.items
     → IsKept (area_size_in d) (log_size_in d) d.claim d.log.items d.area.items (views_in d) → IsPassIn d p
-a_pass d p there pid area_low log_low reserved accounts kept = record {
+a_pass d p there pid area_size log_size reserved accounts kept = record {
   there = there;
   pid = pid;
-  area_low = area_low;
-  log_low = log_low;
+  area_size = area_size;
+  log_size = log_size;
   reserved = reserved;
   accounts = accounts;
   kept = kept;
-  sound = sound_at (area_size_in d) (log_size_in d) d.claim p.slot d.log.items d.area.items (views_in d) (view_in d p) kept (at_map (shown_in d) d.accounts.items p.slot no_account there) refl;
+  sound = sound_at (area_size_in d) (log_size_in d) d.claim p.slot d.log.items d.area.items (views_in d) (view_in d p) area_size log_size kept (at_map (shown_in d) d.accounts.items p.slot no_account there) refl;
 }
 
 -- after a call that changed the account of the pass p, and in which of other accounts at most the words that they read show more
@@ -60,19 +58,19 @@ keeps c d p x w h size long room accounts pid parent known more grown others min
     ∙ (map-set f xs p.slot x ∙ (map_except f (λ (y : Account). with_seen d.area.items (shown_in c y)) xs p.slot no_account (f x) others ∙ ap (λ (v : View). set (map (λ (y : Account). with_seen d.area.items (shown_in c y)) xs) p.slot v) mine))) in
     let kept' : IsKept (area_size_in d) (log_size_in d) d.claim d.log.items d.area.items (views_in d) =
     subst (λ (k : ℕ × (ℕ × List View)). IsKept k.0 k.1.0 d.claim d.log.items d.area.items k.1.1) (λ i. (sym long i, (sym size i, sym views i))) kept in
-    let low_area : length d.area.items ≤ 67108864 = let l = h.area_low in omega arith in
-    let low_log : d.log_size ≤ 4194304 = let l = h.log_low in omega arith in
+    let area_size : IsAreaSize (area_size_in d) = subst IsAreaSize (sym long) h.area_size in
+    let log_size : IsLogSize (log_size_in d) = subst IsLogSize (sym size) h.log_size in
     let reserved : d.log_size ≤ vec_capacity d.log = omega arith in
     let count : length d.accounts.items ≡ length xs = ap length accounts ∙ length-set xs p.slot x in
     let rows : AreAccounts d.log.items d.accounts.items = subst (AreAccounts d.log.items) (sym accounts) (accounts_set c.log.items d.log.items xs p.slot x h.accounts h.there (known_length d.log.items c.log.items more) known pid parent) in
     let at_p : account_in d p ≡ x = ap (λ (ys : List Account). get_or ys p.slot no_account) accounts ∙ get_or-set_same xs p.slot x no_account h.there in (
       (
-        a_pass d p (let i = h.there in omega arith) (ap (λ (y : Account). y.pid) at_p ∙ (pid ∙ h.pid)) low_area low_log reserved rows kept',
+        a_pass d p (let i = h.there in omega arith) (ap (λ (y : Account). y.pid) at_p ∙ (pid ∙ h.pid)) area_size log_size reserved rows kept',
         λ r hr apart.
             let other : r.slot ≢ p.slot = λ e. apart (sym h.pid ∙ (ap (λ (k : ℕ). (nth xs k).pid) (sym e) ∙ hr.pid)) in
             let at_r : account_in d r ≡ account_in c r = ap (λ (ys : List Account). get_or ys r.slot no_account) accounts ∙ get_or-set_other xs p.slot r.slot x no_account other in
             let view : view_in d r ≡ with_seen d.area.items (view_in c r) = ap f' at_r ∙ (same_f (account_in c r) ∙ others r.slot other hr.there) in (
-              a_pass d r (let i = hr.there in omega arith) (ap (λ (y : Account). y.pid) at_r ∙ hr.pid) low_area low_log reserved rows kept',
+              a_pass d r (let i = hr.there in omega arith) (ap (λ (y : Account). y.pid) at_r ∙ hr.pid) area_size log_size reserved rows kept',
               apart,
               (view, grown),
             ),
@@ -93,47 +91,17 @@ stays c d p x w h size area log room accounts pid parent known mine kept =
     (subst (λ (t : List ℕ × List ℕ). IsKept (length c.area.items) c.log_size d.claim t.0 t.1 (set (map (λ (y : Account). with_seen t.1 (shown_in c y)) c.accounts.items) p.slot w)) both kept)
 
 -- the claim word is far from its end
-few_refusals : (views : List View) → refusals views ≤ length views
-few_refusals [] = le_refl 0
-few_refusals (v ∷ views) = let r = few_refusals views in let o = at_most_one v.refused in let x : ℕ = refusals views in let r' : x ≤ length views = r in omega arith
-
-pub claims_low : (a l c : ℕ) (log area : List ℕ) (views : List View) → IsKept a l c log area views → a ≤ 67108864 → l ≤ 4194304 → c < 2 ^ 62
-claims_low a l c log area views r small short =
-    let m : ℕ = refusals views in
-    let b = r.bound in
-    let f = r.few in
-    let g = few_refusals views in
-    let d = r.entries.short in
-    let p : (a + 1) * m ≤ 67108865 * 4194305 = mul-le (a + 1) m 67108865 4194305 (omega arith) (omega arith) in
-    let x : ℕ = (a + 1) * m in
-    let p' : x ≤ 281475043819520 + 67108865 = le_trans p (lit≤ tt) in
-    let b' : c ≤ a + x = b in
-    let g : c < 4611686018427387904 = omega arith in g
-
 pub low_claim : (c : PlainCommons) (p : PlainPass) → IsPassIn c p → c.claim < 2 ^ 62
-low_claim c p h = claims_low (area_size_in c) (log_size_in c) c.claim c.log.items c.area.items (views_in c) h.kept h.area_low h.log_low
-
-one_of : (f : View → ℕ) (vs : List View) (k : ℕ) (v : View) → At vs k v → f v ≤ total f vs
-one_of f [] k v e = absurd (some-ne-none v (sym e))
-one_of f (x ∷ xs) zero v e = let h : f x ≡ f v = ap f (some-injective x v e) in let t : ℕ = total f xs in let g : f v ≤ f x + t = omega arith in g
-one_of f (x ∷ xs) (suc k) v e = let h = one_of f xs k v e in let t : ℕ = total f xs in let h' : f v ≤ t = h in let g : f v ≤ f x + t = omega arith in g
+low_claim c p h = claims_low (area_size_in c) (log_size_in c) c.claim c.log.items c.area.items (views_in c) h.kept h.area_size.1 h.log_size.1
 
 pub low_requests : (c : PlainCommons) (p : PlainPass) → IsPassIn c p → (account_in c p).requests ≤ c.claim
 low_requests c p h = let o = one_of (λ (v : View). v.requests) (views_in c) p.slot (view_in c p) (here c p h) in let e = h.kept.all_requests in omega arith
 
-written_le : (area : List ℕ) → written area ≤ length area
-written_le [] = lit≤ tt
-written_le (x ∷ xs) = let h = written_le xs in let b = bit (x == 0) in let t : ℕ = written xs in let h' : t ≤ length xs = h in let d : ℕ = (if x == 0 then 0 else 1) in let b' : d ≤ 1 = b in let g : d + t ≤ suc (length xs) = omega arith in g
-  where
-    bit : (b : Bool) → (if b then 0 else 1) ≤ 1
-    bit true = lit≤ tt
-    bit false = lit≤ tt
-
 pub low_puts : (c : PlainCommons) (p : PlainPass) → IsPassIn c p → (account_in c p).puts ≤ 67108864
-low_puts c p h = let o = one_of (λ (v : View). v.puts) (views_in c) p.slot (view_in c p) (here c p h) in let e = h.kept.all_puts in let w = written_le c.area.items in let l = h.area_low in omega arith
+low_puts c p h = let o = one_of (λ (v : View). v.puts) (views_in c) p.slot (view_in c p) (here c p h) in let e = h.kept.all_puts in let w = written_le c.area.items in let l = h.area_size.1 in omega arith
 
-pub block_in : (c : PlainCommons) (p : PlainPass) → IsPassIn c p → ((account_in c p).block_start ≤ (account_in c p).block_end) × ((account_in c p).block_end ≤ length c.area.items)
-block_in c p h = let b = (h.kept.each p.slot (view_in c p) (here c p h)).block in (b.ordered, b.inside)
+pub block_below : (c : PlainCommons) (p : PlainPass) → IsPassIn c p → (view_in c p).block_end ≤ c.claim
+block_below c p h = (h.kept.each p.slot (view_in c p) (here c p h)).block.below
 
 pub fits_in : (c : PlainCommons) (p : PlainPass) → IsPassIn c p → Fits (area_size_in c) (view_in c p) c.area.items
 fits_in c p h = fits_at (area_size_in c) (log_size_in c) c.claim p.slot c.log.items c.area.items (views_in c) (view_in c p) h.kept (here c p h)

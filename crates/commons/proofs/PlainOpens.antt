@@ -10,7 +10,9 @@ use Rattle.commons.specs.declared.plain.PlainCommons.{PlainCommons}
 use Rattle.commons.specs.declared.plain.PlainPass.{PlainPass}
 use Rattle.commons.specs.Area.{IsClosed}
 use Rattle.commons.specs.Log.{IsLog}
-use Rattle.commons.specs.Rule.{At, IsKept, IsAccount, written, first_view}
+use Rattle.commons.specs.Views.{IsAreaSize, IsLogSize}
+use Rattle.commons.specs.Rule.{At, IsKept, IsAccount, written}
+use Rattle.commons.specs.Steps.{first_view}
 use Rattle.commons.specs.Plain.{IsPassIn, no_account, AreAccounts, shown, views_in}
 use Rattle.commons.proofs.Accounts.{nth}
 use Rattle.commons.proofs.PlainKeeps.{a_pass}
@@ -79,7 +81,7 @@ opens a l =
     first v zero w e = refl
     first v (suc k) w e = absurd (some-ne-none w (sym e))
 
-pub opened : (c : PlainCommons) (a l : ℕ) → c.claim ≡ 0 → c.log.items ≡ [] → c.log_size ≡ l → c.area.items ≡ zeros a → c.accounts.items ≡ no_account ∷ [] → a ≤ 67108864 → l ≤ 4194304 → l ≤ vec_capacity c.log → IsPassIn c (record { slot = 0; pid = 0 })
+pub opened : (c : PlainCommons) (a l : ℕ) → c.claim ≡ 0 → c.log.items ≡ [] → c.log_size ≡ l → c.area.items ≡ zeros a → c.accounts.items ≡ no_account ∷ [] → IsAreaSize a → IsLogSize l → l ≤ vec_capacity c.log → IsPassIn c (record { slot = 0; pid = 0 })
 opened c a l claim log size area accounts small short room =
     let p : PlainPass = record { slot = 0; pid = 0 } in
     let one : List Account = no_account ∷ [] in
@@ -88,8 +90,8 @@ opened c a l claim log size area accounts small short room =
     subst (λ (t : List ℕ × (List ℕ × List Account)). IsKept (length t.1.0) c.log_size c.claim t.0 t.1.0 (map (shown t.0 t.1.0 t.1.1) t.1.1)) all
     (subst (λ (s : ℕ × (ℕ × ℕ)). IsKept s.0 s.1.0 s.1.1 [] (zeros a) (first_view a ∷ [])) (λ i. (sym (length-replicate {A = ℕ} a 0) i, (sym size i, sym claim i))) (opens a l)) in
     let rows : AreAccounts c.log.items c.accounts.items = subst (λ (t : List ℕ × (List ℕ × List Account)). AreAccounts t.0 t.1.1) all record { known = λ k h. low k; parents = λ k q h e. absurd (no_parent k q e) } in
-    a_pass c p (subst (λ (xs : List Account). 0 < length xs) (sym accounts) (lit< tt)) (ap (λ (xs : List Account). (nth xs 0).pid) accounts) (subst (λ (ws : List ℕ). length ws ≤ 67108864) (sym area) (subst (λ (n : ℕ). n ≤ 67108864) (sym (length-replicate {A = ℕ} a 0)) small))
-    (subst (λ (n : ℕ). n ≤ 4194304) (sym size) short) (subst (λ (n : ℕ). n ≤ vec_capacity c.log) (sym size) room) rows kept
+    a_pass c p (subst (λ (xs : List Account). 0 < length xs) (sym accounts) (lit< tt)) (ap (λ (xs : List Account). (nth xs 0).pid) accounts) (subst (λ (ws : List ℕ). IsAreaSize (length ws)) (sym area) (subst IsAreaSize (sym (length-replicate {A = ℕ} a 0)) small))
+    (subst IsLogSize (sym size) short) (subst (λ (n : ℕ). n ≤ vec_capacity c.log) (sym size) room) rows kept
   where
     low : (k : ℕ) → (nth (no_account ∷ []) k).known ≤ 0
     low zero = lit≤ tt

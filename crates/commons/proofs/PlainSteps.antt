@@ -18,15 +18,18 @@ use Rattle.commons.specs.Area.{IsEntryCell}
 use Rattle.std.proofs.lemmas.Grind.{get_or_default_zero}
 use Rattle.commons.specs.Log.{own_places, header_at}
 use Rattle.commons.specs.Views.{Fits, KnowsPlace, MayPut}
-use Rattle.commons.specs.Changes.{KeepsOthers, Claims, Refuses, Puts, Learns, LooksInVain, MayAppend, Appends, child_at, longer}
-use Rattle.commons.specs.Rule.{At, IsKept, claimed, denied, wrote, appended}
+use Rattle.commons.specs.Changes.{KeepsOthers, Claims, Refuses, Puts, Learns, LooksInVain, Appends, child_at}
+use Rattle.commons.specs.Steps.{longer}
+use Rattle.commons.specs.Views.{MayAppend}
+use Rattle.commons.specs.Rule.{At, IsKept}
+use Rattle.commons.specs.Steps.{claimed, refused_claim, wrote, knowing, appended}
 use Rattle.commons.specs.Plain.{shown, no_account, account_in, shown_in, view_in, views_in, area_size_in, log_size_in, IsPassIn, IsApartIn}
 use Rattle.commons.proofs.Begins.{own_else, own_here}
 use Rattle.commons.proofs.Cells.{header_not_zero, value_not_zero, grown_same, grown_set, actor_grows, inside_of}
 use Rattle.commons.proofs.Grows.{own_grows}
 use Rattle.commons.proofs.Owns.{prints_more}
 use Rattle.commons.proofs.Rows.{set_here}
-use Rattle.commons.proofs.Steps.{claims_kept, denials_kept, puts_kept, catches_up, looks_kept, appends_kept}
+use Rattle.commons.proofs.Steps.{claims_kept, refusals_kept, puts_kept, catches_up, looks_kept, appends_kept}
 use Rattle.commons.proofs.Accounts.{nth, at_map, all_seen, with_seen}
 use Rattle.commons.proofs.PlainKeeps.{here, keeps, stays, known_is, fits_in}
 
@@ -42,16 +45,16 @@ claim_step c p n y h is low = subst (λ (z : Account). KeepsOthers IsPassIn IsAp
     let s = stays c (after_claim c p n z) p x (claimed (view_in c p) c.claim n) h refl refl refl h.reserved refl refl refl (h.accounts.known p.slot h.there) refl kept in
     (s.0, (s.1, grown_same c.area.items)))
 
-abbrev pub after_denial : PlainCommons → PlainPass → ℕ → Account → PlainCommons
-after_denial c p n y = record c { claim = c.claim + n; accounts = with_item c.accounts p.slot (record y { requests = y.requests + n; refused = Some (record { old = c.claim; asked = n }) }) }
+abbrev pub after_refusal : PlainCommons → PlainPass → ℕ → Account → PlainCommons
+after_refusal c p n y = record c { claim = c.claim + n; accounts = with_item c.accounts p.slot (record y { requests = y.requests + n; refused = Some (record { old = c.claim; asked = n }) }) }
 
-pub denial_step : (c : PlainCommons) (p : PlainPass) (n : ℕ) (y : Account) → IsPassIn c p → account_in c p ≡ y → (account_in c p).refused ≡ None → n ≤ length c.area.items + 1
-    → KeepsOthers IsPassIn IsApartIn view_in c p (after_denial c p n y) p × Refuses (view_in c p) c.claim n (view_in (after_denial c p n y) p)
-denial_step c p n y h is first most = subst (λ (z : Account). KeepsOthers IsPassIn IsApartIn view_in c p (after_denial c p n z) p × Refuses (view_in c p) c.claim n (view_in (after_denial c p n z) p)) is
+pub refusal_step : (c : PlainCommons) (p : PlainPass) (n : ℕ) (y : Account) → IsPassIn c p → account_in c p ≡ y → (account_in c p).refused ≡ None → n ≤ length c.area.items + 1
+    → KeepsOthers IsPassIn IsApartIn view_in c p (after_refusal c p n y) p × Refuses (view_in c p) c.claim n (view_in (after_refusal c p n y) p)
+refusal_step c p n y h is first most = subst (λ (z : Account). KeepsOthers IsPassIn IsApartIn view_in c p (after_refusal c p n z) p × Refuses (view_in c p) c.claim n (view_in (after_refusal c p n z) p)) is
     (let z : Account = account_in c p in
     let x : Account = record z { requests = z.requests + n; refused = Some (record { old = c.claim; asked = n }) } in
-    let kept = denials_kept (area_size_in c) (log_size_in c) c.claim p.slot c.log.items c.area.items (views_in c) (view_in c p) h.kept (here c p h) n first most in
-    let s = stays c (after_denial c p n z) p x (denied (view_in c p) c.claim n) h refl refl refl h.reserved refl refl refl (h.accounts.known p.slot h.there) refl kept in
+    let kept = refusals_kept (area_size_in c) (log_size_in c) c.claim p.slot c.log.items c.area.items (views_in c) (view_in c p) h.kept (here c p h) n first most in
+    let s = stays c (after_refusal c p n z) p x (refused_claim (view_in c p) c.claim n) h refl refl refl h.reserved refl refl refl (h.accounts.known p.slot h.there) refl kept in
     (s.0, (s.1, grown_same c.area.items)))
 
 map_map : (f : Account → View) (g : View → View) (xs : List Account) → map g (map f xs) ≡ map (λ (y : Account). g (f y)) xs
@@ -84,7 +87,7 @@ put_step c p word y h is room may = subst (λ (z : Account). KeepsOthers IsPassI
     (λ k n l. let q : Account = nth c.accounts.items k in ap (λ (ps : List ℕ). record (with_seen area' (shown_in c q)) { own = ps }) (own q.pid))
     (ap (λ (ps : List ℕ). record w { own = ps }) (own z.pid))
     (subst (λ (vs : List View). IsKept (length area) c.log_size c.claim c.log.items area' vs) views two) in
-    (s.0, (s.1, grown, get_or-set_same area z.block_start word 0 (omega arith)), grown))
+    (s.0, ((s.1, grown), get_or-set_same area z.block_start word 0 (omega arith)), grown))
 
 -- a place in a known cell was written
 known_written : (a place : ℕ) (v : View) (area : List ℕ) → Fits a v area → KnowsPlace a v place → slice_index area place ≢ 0
@@ -123,7 +126,7 @@ take_begins (x ∷ xs) (suc k) (suc n) l h = let t = take_begins xs k n (omega a
 
 pub learns_more : (c d : PlainCommons) (p : PlainPass) (n : ℕ) → IsPassIn c p → d.area.items ≡ c.area.items → (account_in c p).known ≤ n → n ≤ length c.log.items → view_in d p ≡ record (view_in c p) { known = take n c.log.items } → Learns (view_in c p) (take n c.log.items) (view_in d p)
 learns_more c d p n h area more low view =
-    (view ∙ ap (λ (s : List ℕ). record (view_in c p) { known = take n c.log.items; seen = s }) (sym area), take_begins c.log.items (account_in c p).known n more low, subst (Grown c.area.items) (sym area) (grown_same c.area.items))
+    ((view ∙ ap (λ (s : List ℕ). record (view_in c p) { known = take n c.log.items; seen = s }) (sym area), subst (Grown c.area.items) (sym area) (grown_same c.area.items)), take_begins c.log.items (account_in c p).known n more low)
 
 pub longer_take : (log : List ℕ) (k n : ℕ) → k ≤ length log → n ≤ length log → longer (take k log) (take n log) ≡ take (max k n) log
 longer_take log k n h l =
@@ -186,10 +189,12 @@ append_step c d p x entry h none may room size area log claim reserved accounts 
     let known : (view_in d p).known ≡ words' = ap (λ (u : View). u.known) s.1 in (
       s.0,
       (
-        s.1 ∙ ap (λ (t : List ℕ × List ℕ). record v { known = t.0; own = v.own ++ n ∷ []; unborn = child; seen = t.1 }) (λ i. (sym known i, sym area i)),
-        (m.knows.begins.0, known ∙ ap (λ (l : List ℕ). l ++ entry ∷ []) m.knows.begins.1),
+        m.knows.begins.0,
+        (
+          s.1 ∙ ap (λ (t : List ℕ × List ℕ). record (appended (knowing v t.0) n entry child) { seen = t.1 }) (λ i. (m.knows.begins.1 i, sym area i)),
+          subst (Grown c.area.items) (sym area) (grown_same c.area.items),
+        ),
         ap length known ∙ length-append words (entry ∷ []),
-        subst (Grown c.area.items) (sym area) (grown_same c.area.items),
       ),
     )
 
@@ -264,7 +269,7 @@ tell_step c from to m x y hf ht fx ty most =
     let is : from ≡ to = λ i. record { slot = same i; pid = pid i } in
     let twice : (account_in c from).known ≡ (account_in c to).known = ap (λ (k : ℕ). (nth c.accounts.items k).known) same in
     let still : m ≡ (account_in c to).known = omega arith in
-    let view : view_in d to ≡ view_in c to = s.learns.0 ∙ ap (λ (ws : List ℕ). record (view_in c to) { known = ws }) (s.known ∙ ap (λ (k : ℕ). take k c.log.items) still) in
+    let view : view_in d to ≡ view_in c to = s.learns.0.0 ∙ ap (λ (ws : List ℕ). record (view_in c to) { known = ws }) (s.known ∙ ap (λ (k : ℕ). take k c.log.items) still) in
     (subst (IsPassIn d) (sym is) s.others.0, ap (view_in d) is ∙ (view ∙ ap (view_in c) (sym is))))
     (λ other.
     let differ : to.pid ≢ from.pid = λ e. (ht.kept.apart to.slot from.slot (view_in c to) (view_in c from) (λ z. other (sym z)) (here c to ht) (here c from hf)).pids (ht.pid ∙ (e ∙ sym hf.pid)) in

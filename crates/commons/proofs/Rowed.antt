@@ -1,118 +1,120 @@
--- What puts in a row make: entries that may be appended.
-use Rattle.std.proofs.Common.{◌≡◌, ◌≢◌, ℕ, zero, suc, ◌+◌, ◌^◌, ◌<◌, List, sym, ap, ◌∙◌, inl, subst, arith}
+-- Words in a row, and the whole entry that a header and a row make.
+use Rattle.std.proofs.Common.{◌≡◌, ◌≢◌, ℕ, zero, suc, ◌+◌, ◌-◌, ◌<◌, ◌≤◌, List, [], ◌∷◌, ◌++◌, length, length-append, sym, ap, ◌∙◌, inl, inr, ⊎_elim, subst, arith, lt_of_not-le}
 use Rattle.std.specs.Prelude.{slice_index}
-use Rattle.hy_words.specs.Words.{word_of, tag_of, payload_of, area_word_of, IsHeader, IsScalar, IsValue, IsPidWord, IsCountWord, following}
+use Rattle.std.proofs.lemmas.List.{get_or_append_left, get_or-append-add}
+use native.Mathlib.Decide.{ℕ_discrete, dec_le}
+use mathlib.Core.Logic.{dite}
+use Rattle.hy_words.specs.Lists.{Grown}
+use Rattle.hy_words.specs.Words.{tag_of, payload_of, area_word_of, IsHeader, IsEntryHeader, IsTermHeader, IsScalar, IsValue, following}
 use Rattle.commons.specs.declared.view.View.{View}
 use Rattle.commons.specs.Area.{IsWhole, IsEntryCell, HasShape}
-use Rattle.commons.specs.Log.{header_at, prints_at}
-use Rattle.commons.specs.Views.{Fits, MayPut}
-use Rattle.commons.specs.Changes.{Puts, MayAppend}
-use Rattle.commons.proofs.Cells.{header_not_zero, value_not_zero, following_entry}
-use Rattle.commons.proofs.Later.{KnowsMore, more_on, put_more, may_put_later, fits_later}
+use Rattle.commons.specs.Log.{HasWords, prints_at}
+use Rattle.commons.specs.Views.{Fits, KnowsTerm, MayShare, MayAppend}
+use Rattle.commons.specs.Changes.{PutsWords}
+use Rattle.commons.proofs.Cells.{header_not_zero, following_entry, grown_same, grown_on}
 use Rattle.commons.proofs.Grows.{area_word_tag, area_word_place}
 
-pub below_two : (P : ℕ → Type 0) → P 0 → P 1 → (k : ℕ) → k < 2 → P k
-below_two P a b zero h = a
-below_two P a b (suc zero) h = b
-below_two P a b (suc (suc k)) h = absurd (omega arith)
+-- the first k words of a row stand
+abbrev pub HasFirst : List ℕ → (place : ℕ) → List ℕ → ℕ → Type 0
+HasFirst area place words k = (j : ℕ) → j < k → slice_index area (place + j) ≡ slice_index words j
 
-pub below_three : (P : ℕ → Type 0) → P 0 → P 1 → P 2 → (k : ℕ) → k < 3 → P k
-below_three P a b c zero h = a
-below_three P a b c (suc zero) h = b
-below_three P a b c (suc (suc zero)) h = c
-below_three P a b c (suc (suc (suc k))) h = absurd (omega arith)
+pub none_first : (area : List ℕ) (place : ℕ) (words : List ℕ) → HasFirst area place words 0
+none_first area place words j h = absurd (omega arith)
 
--- a word that was put stays
-pub stayed : (a b : View) (place word x : ℕ) → Puts a x b → word ≢ 0 → slice_index a.seen place ≡ word → slice_index b.seen place ≡ word
-stayed a b place word x p n e = p.1 place (λ z. n (sym e ∙ z)) ∙ e
+pub one_more : (a b : List ℕ) (place k : ℕ) (words : List ℕ) → Grown a b → ((j : ℕ) → j < k → slice_index words j ≢ 0) → slice_index b (place + k) ≡ slice_index words k → HasFirst a place words k → HasFirst b place words (k + 1)
+one_more a b place k words grown some here row j h = dite (ℕ_discrete j k)
+    (λ e. subst (λ (i : ℕ). slice_index b (place + i) ≡ slice_index words i) (sym e) here)
+    (λ o. let low : j < k = omega arith in let is = row j low in grown (place + j) (λ z. some j low (sym is ∙ z)) ∙ is)
 
--- words that were put in a row stand in a row
-pub short_words : (a b c d : View) (h x y : ℕ) → Puts a h b → Puts b x c → Puts c y d → h ≢ 0 → x ≢ 0 → (slice_index d.seen a.block_start ≡ h) × (slice_index d.seen (a.block_start + 1) ≡ x) × (slice_index d.seen (a.block_start + 2) ≡ y)
-short_words a b c d h x y p q r nh nx =
-    let n : ℕ = a.block_start in
-    let b1 : b.block_start ≡ n + 1 = ap (λ (v : View). v.block_start) p.0 in
-    let c1 : c.block_start ≡ n + 1 + 1 = ap (λ (v : View). v.block_start) q.0 ∙ ap (λ (k : ℕ). k + 1) b1 in
-    let c2 : c.block_start ≡ n + 2 = omega arith in (
-      stayed c d n h y r nh (stayed b c n h x q nh p.2),
-      stayed c d (n + 1) x y r nx (subst (λ (k : ℕ). slice_index c.seen k ≡ x) b1 q.2),
-      subst (λ (k : ℕ). slice_index d.seen k ≡ y) c2 r.2,
-    )
+-- a row stays where words are added
+pub words_grow : (a b : List ℕ) (place : ℕ) (words : List ℕ) → Grown a b → ((k : ℕ) → k < length words → slice_index words k ≢ 0) → HasWords a place words → HasWords b place words
+words_grow a b place words grown some row k h = let is = row k h in grown (place + k) (λ z. some k h (sym is ∙ z)) ∙ is
 
-pub sent_words : (a b c d e : View) (h x y z : ℕ) → Puts a h b → Puts b x c → Puts c y d → Puts d z e → h ≢ 0 → x ≢ 0 → y ≢ 0
-    → (slice_index e.seen a.block_start ≡ h) × (slice_index e.seen (a.block_start + 1) ≡ x) × (slice_index e.seen (a.block_start + 2) ≡ y) × (slice_index e.seen (a.block_start + 3) ≡ z)
-sent_words a b c d e h x y z p q r s nh nx ny =
-    let n : ℕ = a.block_start in
-    let ws = short_words a b c d h x y p q r nh nx in
-    let b1 : b.block_start ≡ n + 1 = ap (λ (v : View). v.block_start) p.0 in
-    let c1 : c.block_start ≡ n + 1 + 1 = ap (λ (v : View). v.block_start) q.0 ∙ ap (λ (k : ℕ). k + 1) b1 in
-    let d1 : d.block_start ≡ n + 1 + 1 + 1 = ap (λ (v : View). v.block_start) r.0 ∙ ap (λ (k : ℕ). k + 1) c1 in
-    let d2 : d.block_start ≡ n + 3 = omega arith in (stayed d e n h z s nh ws.0, stayed d e (n + 1) x z s nx ws.1, stayed d e (n + 2) y z s ny ws.2, subst (λ (k : ℕ). slice_index e.seen k ≡ z) d2 s.2)
+-- a row behind a row
+pub words_behind : (area : List ℕ) (place : ℕ) (xs ys : List ℕ) → HasWords area place xs → HasWords area (place + length xs) ys → HasWords area place (xs ++ ys)
+words_behind area place xs ys f g k h = dite (dec_le (length xs) k)
+    (λ past.
+    let j : ℕ = k - length xs in
+    let at : k ≡ length xs + j = omega arith in
+    let place_at : place + length xs + j ≡ place + k = omega arith in
+    ap (slice_index area) (sym place_at) ∙ (g j (omega (arith, length-append xs ys)) ∙ sym (ap (slice_index (xs ++ ys)) at ∙ get_or-append-add xs ys j 0)))
+    (λ before. let low = lt_of_not-le before in f k low ∙ sym (get_or_append_left xs ys 0 k low))
 
--- the whole entry with a header, a pid and a count behind it
-pub short_entry : (capacity : ℕ) (a b c d : View) (h x y entry : ℕ) → Puts a h b → Puts b x c → Puts c y d → IsHeader h → 9 < tag_of h → payload_of h ≡ 2 → IsScalar x → IsPidWord x → payload_of x ≡ a.pid → IsScalar y → IsCountWord y → entry ≡ area_word_of a.block_start
-    → (tag_of h ≡ 11 → (area : List ℕ) → Fits capacity d area → payload_of y ≡ prints_at area d.known d.own) → MayAppend capacity d entry
-short_entry capacity a b c d h x y entry p q r header kind two sx px me sy cy at text =
-    let n : ℕ = a.block_start in
-    let ws = short_words a b c d h x y p q r (header_not_zero h header) (value_not_zero x (inl sx)) in
-    let w0 = ws.0 in
-    let w1 = ws.1 in
-    let w2 = ws.2 in
-    let place : payload_of entry ≡ n = ap payload_of at ∙ area_word_place n in
-    let f : following (slice_index d.seen n) ≡ 2 = ap following w0 ∙ (following_entry h (omega arith) ∙ two) in
-    let pid : d.pid ≡ a.pid = ap (λ (v : View). v.pid) r.0 ∙ (ap (λ (v : View). v.pid) q.0 ∙ ap (λ (v : View). v.pid) p.0) in
-    let shape : HasShape h x y = ((λ e. absurd (omega arith)), (λ e. (omega arith, px, cy)), (λ e. (two, px, cy))) in
-    let whole : IsWhole d.seen n = record {
-      header = subst IsHeader (sym w0) header;
-      values = λ k i. below_two (λ (j : ℕ). IsValue (slice_index d.seen (n + 1 + j))) (subst (λ (j : ℕ). IsValue (slice_index d.seen j)) (let z : n + 1 ≡ n + 1 + 0 = omega arith in z) (subst IsValue (sym w1) (inl sx))) (subst (λ (j : ℕ). IsValue (slice_index d.seen j)) (let z : n + 2 ≡ n + 1 + 1 = omega arith in z) (subst IsValue (sym w2) (inl sy))) k (subst (λ (m : ℕ). k < m) f i);
-      shape = subst (λ (t : ℕ × (ℕ × ℕ)). HasShape t.0 t.1.0 t.1.1) (λ i. (sym w0 i, (sym w1 i, sym w2 i))) shape;
+pub puts_none : (v : View) → PutsWords v 0 v
+puts_none v = (ap (λ (t : ℕ × ℕ). record v { block_start = t.0; puts = t.1 }) (λ i. ((let z : v.block_start ≡ v.block_start + 0 = omega arith in z) i, (let z : v.puts ≡ v.puts + 0 = omega arith in z) i)), grown_same v.seen)
+
+-- words were put, and then more
+pub puts_on : (u v w : View) (k n : ℕ) → PutsWords u k v → PutsWords v n w → PutsWords u (k + n) w
+puts_on u v w k n f g =
+    let start : u.block_start + k + n ≡ u.block_start + (k + n) = omega arith in
+    let count : u.puts + k + n ≡ u.puts + (k + n) = omega arith in
+    let e : w ≡ record u { block_start = u.block_start + k + n; puts = u.puts + k + n; seen = w.seen } = g.0 ∙ ap (λ (x : View). record x { block_start = x.block_start + n; puts = x.puts + n; seen = w.seen }) f.0 in
+    (e ∙ ap (λ (t : ℕ × ℕ). record u { block_start = t.0; puts = t.1; seen = w.seen }) (λ i. (start i, count i)), grown_on u.seen v.seen w.seen f.1 g.1)
+
+pub share_value : (capacity : ℕ) (v : View) (word : ℕ) → MayShare capacity v word → IsValue word
+share_value capacity v word h = ⊎_elim (λ (x : IsScalar word). inl x) (λ (x : (cell : ℕ) × (word ≡ area_word_of cell) × KnowsTerm capacity v cell). inr (ap tag_of x.1 ∙ area_word_tag x.0)) h
+
+-- the first three words of a row
+pub row_heads : (area : List ℕ) (place h a b : ℕ) (rest : List ℕ) → HasWords area place (h ∷ a ∷ b ∷ rest) → (slice_index area place ≡ h) × (slice_index area (place + 1) ≡ a) × (slice_index area (place + 2) ≡ b)
+row_heads area place h a b rest row = (ap (slice_index area) (let z : place ≡ place + 0 = omega arith in z) ∙ row 0 (omega arith), row 1 (omega arith), row 2 (omega arith))
+
+pub three_some : (h a b : ℕ) → h ≢ 0 → a ≢ 0 → b ≢ 0 → (k : ℕ) → k < 3 → slice_index (h ∷ a ∷ b ∷ []) k ≢ 0
+three_some h a b x y z zero low = x
+three_some h a b x y z (suc zero) low = y
+three_some h a b x y z (suc (suc zero)) low = z
+three_some h a b x y z (suc (suc (suc k))) low = absurd (omega arith)
+
+pub one_value : (word : ℕ) → IsValue word → (k : ℕ) → k < 1 → IsValue (slice_index (word ∷ []) k)
+one_value word v zero low = v
+one_value word v (suc k) low = absurd (omega arith)
+
+pub no_value : (k : ℕ) → k < 0 → IsValue (slice_index [] k)
+no_value k low = absurd (omega arith)
+
+-- a header and values behind it make a tuple or cons that the pass knows
+pub row_term : (capacity : ℕ) (v : View) (place header : ℕ) (parts : List ℕ) → HasWords v.seen place (header ∷ parts) → IsHeader header → IsTermHeader header → following header ≡ length parts → ((k : ℕ) → k < length parts → IsValue (slice_index parts k)) → KnowsTerm capacity v place
+row_term capacity v place header parts row is kind count values =
+    let here : slice_index v.seen place ≡ header = ap (slice_index v.seen) (let z : place ≡ place + 0 = omega arith in z) ∙ row 0 (omega arith) in
+    let low : tag_of header ≤ 8 = kind.1 in
+    let tag : tag_of (slice_index v.seen place) ≡ tag_of header = ap tag_of here in
+    let long : following (slice_index v.seen place) ≡ length parts = ap following here ∙ count in
+    let whole : IsWhole v.seen place = record {
+      header = subst IsHeader (sym here) is;
+      values = λ k h.
+          let same : slice_index v.seen (place + 1 + k) ≡ slice_index parts k = ap (slice_index v.seen) (let z : place + 1 + k ≡ place + suc k = omega arith in z) ∙ row (suc k) (omega arith) in
+          subst IsValue (sym same) (values k (omega arith));
+      shape = ((λ e. let t : tag_of (slice_index v.seen place) ≡ 9 = e in absurd (omega arith)), (λ e. let t : tag_of (slice_index v.seen place) ≡ 10 = e in absurd (omega arith)), (λ e. let t : tag_of (slice_index v.seen place) ≡ 11 = e in absurd (omega arith)));
     } in
-    let cell : IsEntryCell d.seen n = (whole, subst (λ (w : ℕ). 8 < tag_of w) (sym w0) (omega arith)) in record {
-      names_cell = ap tag_of at ∙ area_word_tag n;
-      whole = subst (IsEntryCell d.seen) (sym place) cell;
-      actor = ap (λ (k : ℕ). payload_of (slice_index d.seen (k + 1))) place ∙ (ap payload_of w1 ∙ (me ∙ sym pid));
-      text = λ print area fit. ap (λ (k : ℕ). payload_of (slice_index d.seen (k + 2))) place ∙ (ap payload_of w2 ∙ text (sym (ap (λ (k : ℕ). tag_of (slice_index d.seen k)) place ∙ ap tag_of w0) ∙ print) area fit);
-    }
+    (inl whole, λ area f. subst IsTermHeader (sym (f.agrees place (λ z. header_not_zero header is (sym here ∙ z)) ∙ here)) kind)
 
--- the whole send entry
-pub send_entry : (capacity : ℕ) (a b c d e : View) (h x y z entry : ℕ) → Puts a h b → Puts b x c → Puts c y d → Puts d z e → IsHeader h → tag_of h ≡ 9 → payload_of h ≡ 3 → IsScalar x → IsPidWord x → payload_of x ≡ a.pid → IsScalar y → IsPidWord y → IsValue z → entry ≡ area_word_of a.block_start → MayAppend capacity e entry
-send_entry capacity a b c d e h x y z entry p q r s header kind three sx px me sy py sz at =
-    let n : ℕ = a.block_start in
-    let ws = sent_words a b c d e h x y z p q r s (header_not_zero h header) (value_not_zero x (inl sx)) (value_not_zero y (inl sy)) in
-    let w0 = ws.0 in
-    let w1 = ws.1 in
-    let w2 = ws.2 in
-    let w3 = ws.3 in
-    let place : payload_of entry ≡ n = ap payload_of at ∙ area_word_place n in
-    let f : following (slice_index e.seen n) ≡ 3 = ap following w0 ∙ (following_entry h (omega arith) ∙ three) in
-    let pid : e.pid ≡ a.pid = ap (λ (v : View). v.pid) s.0 ∙ (ap (λ (v : View). v.pid) r.0 ∙ (ap (λ (v : View). v.pid) q.0 ∙ ap (λ (v : View). v.pid) p.0)) in
-    let shape : HasShape h x y = ((λ k. (three, px, py)), (λ k. absurd (omega arith)), (λ k. absurd (omega arith))) in
-    let value : (j k w : ℕ) → k ≡ j → slice_index e.seen k ≡ w → IsValue w → IsValue (slice_index e.seen j) = λ j k w u at v. subst (λ (i : ℕ). IsValue (slice_index e.seen i)) u (subst IsValue (sym at) v) in
-    let whole : IsWhole e.seen n = record {
-      header = subst IsHeader (sym w0) header;
-      values = λ k i. below_three (λ (j : ℕ). IsValue (slice_index e.seen (n + 1 + j))) (value (n + 1 + 0) (n + 1) x (omega arith) w1 (inl sx)) (value (n + 1 + 1) (n + 2) y (omega arith) w2 (inl sy)) (value (n + 1 + 2) (n + 3) z (omega arith) w3 sz) k (subst (λ (m : ℕ). k < m) f i);
-      shape = subst (λ (t : ℕ × (ℕ × ℕ)). HasShape t.0 t.1.0 t.1.1) (λ i. (sym w0 i, (sym w1 i, sym w2 i))) shape;
+-- a header, and a pid, a second word and values behind it, make a whole entry that may be appended
+pub row_entry : (capacity : ℕ) (v : View) (place header first second entry : ℕ) (rest : List ℕ) → HasWords v.seen place (header ∷ first ∷ second ∷ rest) → IsHeader header → IsEntryHeader header → payload_of header ≡ 2 + length rest → HasShape header first second
+    → IsScalar first → IsScalar second → ((k : ℕ) → k < length rest → IsValue (slice_index rest k)) → payload_of first ≡ v.pid → entry ≡ area_word_of place
+    → (tag_of header ≡ 11 → (area : List ℕ) → Fits capacity v area → payload_of second ≡ prints_at area v.known v.own) → MayAppend capacity v entry
+row_entry capacity v place header first second entry rest row is kind long shape one two values me at text =
+    let heads = row_heads v.seen place header first second rest row in
+    let h0 : slice_index v.seen place ≡ header = heads.0 in
+    let h1 : slice_index v.seen (place + 1) ≡ first = heads.1 in
+    let h2 : slice_index v.seen (place + 2) ≡ second = heads.2 in
+    let there : payload_of entry ≡ place = ap payload_of at ∙ area_word_place place in
+    let count : following (slice_index v.seen place) ≡ 2 + length rest = ap following h0 ∙ (following_entry header kind ∙ long) in
+    let part : (k : ℕ) → k < 2 + length rest → IsValue (slice_index (first ∷ second ∷ rest) k) = λ k h. each k h in
+    let whole : IsWhole v.seen place = record {
+      header = subst IsHeader (sym h0) is;
+      values = λ k h.
+          let low : k < 2 + length rest = omega arith in
+          let same : slice_index v.seen (place + 1 + k) ≡ slice_index (first ∷ second ∷ rest) k = ap (slice_index v.seen) (let z : place + 1 + k ≡ place + suc k = omega arith in z) ∙ row (suc k) (omega arith) in
+          subst IsValue (sym same) (part k low);
+      shape = subst (λ (t : ℕ × (ℕ × ℕ)). HasShape t.0 t.1.0 t.1.1) (λ i. (sym h0 i, (sym h1 i, sym h2 i))) shape;
     } in
-    let cell : IsEntryCell e.seen n = (whole, subst (λ (w : ℕ). 8 < tag_of w) (sym w0) (omega arith)) in record {
-      names_cell = ap tag_of at ∙ area_word_tag n;
-      whole = subst (IsEntryCell e.seen) (sym place) cell;
-      actor = ap (λ (k : ℕ). payload_of (slice_index e.seen (k + 1))) place ∙ (ap payload_of w1 ∙ (me ∙ sym pid));
-      text = λ print area fit. absurd (let t : tag_of (header_at e.seen entry) ≡ 9 = ap (λ (k : ℕ). tag_of (slice_index e.seen k)) place ∙ (ap tag_of w0 ∙ kind) in let u : tag_of (header_at e.seen entry) ≡ 11 = print in omega arith);
+    let cell : IsEntryCell v.seen place = (whole, subst IsEntryHeader (sym h0) kind) in record {
+      names_cell = ap tag_of at ∙ area_word_tag place;
+      whole = subst (IsEntryCell v.seen) (sym there) cell;
+      actor = ap (λ (k : ℕ). payload_of (slice_index v.seen (k + 1))) there ∙ (ap payload_of h1 ∙ me);
+      text = λ print area fit. ap (λ (k : ℕ). payload_of (slice_index v.seen (k + 2))) there ∙ (ap payload_of h2 ∙ text (sym (ap (λ (k : ℕ). tag_of (slice_index v.seen k)) there ∙ ap tag_of h0) ∙ print) area fit);
     }
-
--- after words were put a pass knows no less
-pub three_more : (a b c d : View) (x y z : ℕ) → Puts a x b → Puts b y c → Puts c z d → KnowsMore a d
-three_more a b c d x y z p q r = more_on a b d (put_more a b x p) (more_on b c d (put_more b c y q) (put_more c d z r))
-
-pub may_put_after : (capacity : ℕ) (a b c d : View) (x y z word : ℕ) → Puts a x b → Puts b y c → Puts c z d → MayPut capacity a word → MayPut capacity d word
-may_put_after capacity a b c d x y z word p q r may = may_put_later capacity a d word (three_more a b c d x y z p q r) may
-
--- a print entry, whose number was right before its words were put
-pub print_entry : (capacity : ℕ) (a b c d : View) (h x y entry text : ℕ) → Puts a h b → Puts b x c → Puts c y d → IsHeader h → tag_of h ≡ 11 → payload_of h ≡ 2 → IsScalar x → IsPidWord x → payload_of x ≡ a.pid → IsScalar y → y ≡ word_of 1 text → text < 2 ^ 59 → entry ≡ area_word_of a.block_start
-    → ((area : List ℕ) → Fits capacity a area → text ≡ prints_at area a.known a.own) → MayAppend capacity d entry
-print_entry capacity a b c d h x y entry text p q r header kind two sx px me sy is low at right =
-    let load : payload_of y ≡ text = omega arith in
-    let count : IsCountWord y = (omega arith, omega arith) in
-    let known : d.known ≡ a.known = ap (λ (v : View). v.known) r.0 ∙ (ap (λ (v : View). v.known) q.0 ∙ ap (λ (v : View). v.known) p.0) in
-    let own : d.own ≡ a.own = ap (λ (v : View). v.own) r.0 ∙ (ap (λ (v : View). v.own) q.0 ∙ ap (λ (v : View). v.own) p.0) in
-    short_entry capacity a b c d h x y entry p q r header (omega arith) two sx px me sy count at
-    (λ print area fit. load ∙ (right area (fits_later capacity a d area (three_more a b c d h x y p q r) fit) ∙ ap (λ (t : List ℕ × List ℕ). prints_at area t.0 t.1) (λ i. (sym known i, sym own i))))
+  where
+    each : (k : ℕ) → k < 2 + length rest → IsValue (slice_index (first ∷ second ∷ rest) k)
+    each zero h = inl one
+    each (suc zero) h = inl two
+    each (suc (suc k)) h = values k (omega arith)

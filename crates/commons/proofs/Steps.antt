@@ -12,9 +12,10 @@ use Rattle.commons.specs.declared.view.View.{View}
 use Rattle.commons.specs.declared.view.Refusal.{Refusal}
 use Rattle.commons.specs.Area.{IsEntryCell, IsTermCell, IsClosed}
 use Rattle.commons.specs.Log.{header_at, actor_of, text_of, own_places, prints, prints_at, IsLog}
-use Rattle.commons.specs.Views.{Fits, MayPut, IsSound}
-use Rattle.commons.specs.Changes.{longer}
-use Rattle.commons.specs.Rule.{one_if_some, refusals, HasBlock, HasKnown, HasOwn, IsSpawnAt, HasPid, HasRefusal, IsAccount, AreApart, At, IsKept, claimed, denied, wrote, read, learnt, appended, gave_up, or_nil, told_of, settled}
+use Rattle.commons.specs.Views.{Fits, MayPut, IsAreaSize, IsLogSize, IsSound}
+use Rattle.commons.specs.Steps.{longer}
+use Rattle.commons.specs.Rule.{one_if_some, refusals, HasBlock, HasKnown, HasOwn, IsSpawnAt, HasPid, HasRefusal, IsAccount, AreApart, At, IsKept}
+use Rattle.commons.specs.Steps.{claimed, refused_claim, wrote, read, learnt, appended, gave_up, or_nil, told_of, settled, knowing, looked}
 use Rattle.commons.proofs.Begins.{one_further, begins_more, whole_begin, last_of, own_else, own_here, has_last, at_most_one}
 use Rattle.commons.proofs.Cells.{grown_on, grown_set, grown_both, actor_grows, header_grows}
 use Rattle.commons.proofs.Grows.{own_grows, written_set, fits_by, knows_whole, put_not_zero, put_shape, put_names, closed_put, log_grows, log_appends, known_in_log, known_length}
@@ -97,9 +98,9 @@ module _ (a l c k : ℕ) (log area : List ℕ) (views : List View) (v : View) (r
       refl (λ q e. e) (le_refl (one_if_some v.unborn)) refl refl refl (λ place s t. inr s) (omega arith)
 
   -- a claim that is refused
-  pub denials_kept : (n : ℕ) → v.refused ≡ None → n ≤ a + 1 → IsKept a l (c + n) log area (set views k (denied v c n))
-  denials_kept n first most =
-      let w : View = denied v c n in
+  pub refusals_kept : (n : ℕ) → v.refused ≡ None → n ≤ a + 1 → IsKept a l (c + n) log area (set views k (refused_claim v c n))
+  refusals_kept n first most =
+      let w : View = refused_claim v c n in
       let was : one_if_some v.refused ≡ 0 = ap (λ (o : Option Refusal). one_if_some o) first in
       let t = total_set (λ (x : View). one_if_some x.refused) views k v w at in
       let m : ℕ = refusals views in
@@ -179,16 +180,16 @@ module _ (a l c k : ℕ) (log area : List ℕ) (views : List View) (v : View) (r
       refl (λ q e. e) (le_refl (one_if_some v.unborn)) refl refl refl refl refl refl
 
   -- all words of the log become known
-  pub catches_up : (known : List ℕ) → length v.known ≤ length known → StartsWith log known → IsKept a l c log area (set views k (record v { known = known }))
+  pub catches_up : (known : List ℕ) → length v.known ≤ length known → StartsWith log known → IsKept a l c log area (set views k (knowing v known))
   catches_up known more begins =
-      let w : View = record v { known = known } in
+      let w : View = knowing v known in
       retouched a l c log area views k v w r at
       (known_account w refl refl refl refl refl refl refl more begins (mine).knows.told_begins)
       refl (λ q e. e) (le_refl (one_if_some v.unborn)) refl refl refl refl refl refl
 
   -- a look found nothing; its count is a free number
-  pub looks_kept : (looks : ℕ) → IsKept a l c log area (set views k (record v { looks = looks }))
-  looks_kept looks = retouched a l c log area views k v (record v { looks = looks }) r at record { block = (mine).block; knows = (mine).knows; owns = (mine).owns; names = (mine).names; refusal = (mine).refusal } refl (λ q e. e) (le_refl (one_if_some v.unborn)) refl refl refl refl refl refl
+  pub looks_kept : (looks : ℕ) → IsKept a l c log area (set views k (looked v looks))
+  looks_kept looks = retouched a l c log area views k v (looked v looks) r at record { block = (mine).block; knows = (mine).knows; owns = (mine).owns; names = (mine).names; refusal = (mine).refusal } refl (λ q e. e) (le_refl (one_if_some v.unborn)) refl refl refl refl refl refl
 
   -- what another pass knew is joined in
   pub tells_kept : (t : List ℕ) → StartsWith log t → IsKept a l c log area (set views k (told_of v t))
@@ -386,11 +387,12 @@ appends_kept a l c k log area views v entry child r at whole room six cell mine_
     }
 
 -- what holds of each pass between calls
-pub sound_at : (a l c k : ℕ) (log area : List ℕ) (views : List View) (v : View) → IsKept a l c log area views → At views k v → v.told ≡ None → IsSound a l v
-sound_at a l c k log area views v r at settled =
+pub sound_at : (a l c k : ℕ) (log area : List ℕ) (views : List View) (v : View) → IsAreaSize a → IsLogSize l → IsKept a l c log area views → At views k v → v.told ≡ None → IsSound a l v
+sound_at a l c k log area views v area_size log_size r at settled =
     let m = r.each k v at in
     let reach = known_length log v.known m.knows.begins in
     let short = r.entries.short in record {
+      sizes = (area_size, log_size);
       short = omega arith;
       names_entries = λ j h. ap tag_of (sym (known_in_log log v.known j m.knows.begins h)) ∙ (r.entries.entries j (omega arith)).0;
       settled = settled;

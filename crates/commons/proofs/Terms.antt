@@ -1,23 +1,19 @@
 -- In a closed area each value stands for a term, and each whole entry tells an event.
-use Rattle.std.proofs.Common.{◌≡◌, ◌≢◌, ◌⊎◌, ℕ, ℤ, zero, suc, ◌+◌, ◌-◌, ◌^◌, ◌<◌, ◌≤◌, List, [], ◌∷◌, length, sym, refl, ap, ◌∙◌, ⊎_elim, subst, arith, Bool, le-ltb, lt-ltb}
-use Rattle.std.specs.Prelude.{slice_index, pos, negsuc, if◌then◌else◌}
-use native.Mathlib.Decide.{ℕ_discrete, dec_lt}
+use Rattle.std.proofs.Common.{◌≡◌, ◌≢◌, ◌⊎◌, ℕ, ℤ, zero, suc, ◌+◌, ◌-◌, ◌^◌, ◌<◌, ◌≤◌, List, [], ◌∷◌, length, sym, refl, ap, ◌∙◌, ⊎_elim, subst, arith}
+use Rattle.std.specs.Prelude.{slice_index}
+use native.Mathlib.Decide.{ℕ_discrete}
 use mathlib.Core.Logic.{dite}
 use Rattle.hy_terms.specs.declared.term.Colour.TheVariants.{Shared}
 use Rattle.hy_terms.specs.Labelled.{Labelled, labels_of}
 use Rattle.hy_terms.specs.Labelled as l
 use Rattle.hy_words.specs.Lists.{Grown}
-use Rattle.hy_words.specs.Words.{tag_of, payload_of, size_of, site_of, area_word_of, word_of, number_word, number_of, payload_of_number, IsNumber, IsHeader, IsScalar, IsValue, following, tuple_header_of, cons_header_of}
+use Rattle.hy_words.specs.Words.{tag_of, payload_of, size_of, site_of, area_word_of, word_of, number_word, number_of, IsHeader, IsScalar, IsValue, following, tuple_header_of, cons_header_of}
 use Rattle.hy_words.specs.Stands.{Stands, PartsStand, of_int, of_atom, of_pid, of_nil, of_cons, of_tuple, no_parts, more_parts}
+use Rattle.hy_words.proofs.Numbers.{number_back}
 use Rattle.hy_words.proofs.Standing.{stands_grows}
 use Rattle.commons.specs.Area.{IsTermCell, IsEntryCell, StandsInArea, IsClosed}
 use Rattle.commons.specs.Log.{LogEvent, LoggedSend, LoggedSpawn, LoggedPrint, Tells}
 use Rattle.commons.proofs.Cells.{value_not_private, following_tuple, following_cons, following_entry, value_at, grown_same}
-
-number_back : (p : ℕ) → p < 2 ^ 60 → IsNumber (number_of p) × (payload_of_number (number_of p) ≡ p)
-number_back p h = dite (dec_lt p (2 ^ 59))
-    (λ low. subst (λ (b : Bool). IsNumber (if b then pos p else negsuc (1152921504606846975 - p)) × (payload_of_number (if b then pos p else negsuc (1152921504606846975 - p)) ≡ p)) (sym (lt-ltb p 576460752303423488 low)) (low, refl))
-    (λ high. subst (λ (b : Bool). IsNumber (if b then pos p else negsuc (1152921504606846975 - p)) × (payload_of_number (if b then pos p else negsuc (1152921504606846975 - p)) ≡ p)) (sym (le-ltb p 576460752303423488 (omega arith))) (omega arith, omega arith))
 
 -- a scalar stands for itself
 pub scalar_stands : (area : List ℕ) (w : ℕ) → IsScalar w → StandsInArea area w
@@ -30,8 +26,8 @@ scalar_stands area w s =
     (λ n1. dite (ℕ_discrete (tag_of w) 2)
     (λ e. let same : word_of 2 (payload_of w) ≡ w = omega arith in (l.Atom (payload_of w), subst (Stands [] area (l.Atom (payload_of w))) same (of_atom (payload_of w) (s.3 e))))
     (λ n2. dite (ℕ_discrete (tag_of w) 3)
-    (λ e. let same : word_of 3 (payload_of w) ≡ w = omega arith in (l.Pid (payload_of w), subst (Stands [] area (l.Pid (payload_of w))) same (of_pid (payload_of w))))
-    (λ n3. let e : tag_of w ≡ 4 = omega arith in let z = s.4 e in let same : 4 ≡ w = omega arith in (l.Nil, subst (Stands [] area l.Nil) same of_nil))))
+    (λ e. let same : word_of 3 (payload_of w) ≡ w = omega arith in (l.Pid (payload_of w), subst (Stands [] area (l.Pid (payload_of w))) same (of_pid (payload_of w) (s.4 e))))
+    (λ n3. let e : tag_of w ≡ 4 = omega arith in let z = s.5 e in let same : 4 ≡ w = omega arith in (l.Nil, subst (Stands [] area l.Nil) same of_nil))))
 
 -- a value whose cell stands for a term, if it has one, stands for a term
 pub value_stands : (area : List ℕ) (w : ℕ) → (tag_of w ≡ 6 → StandsInArea area (area_word_of (payload_of w))) → IsValue w → StandsInArea area w
@@ -55,13 +51,13 @@ pub cell_stands : (area : List ℕ) (cell : ℕ) → IsTermCell area cell → ((
 cell_stands area cell h each =
     let w : ℕ = slice_index area cell in
     let low : 7 ≤ tag_of w = h.0.header.0 in
-    let high : tag_of w < 9 = h.1 in
+    let high : tag_of w ≤ 8 = h.1.1 in
     let both : (k : ℕ) → k < following w → StandsInArea area (slice_index area (cell + 1 + k)) × (tag_of (slice_index area (cell + 1 + k)) ≢ 5) = λ k i. (each k i, value_not_private (slice_index area (cell + 1 + k)) (h.0.values k i)) in
     let site : ℕ = site_of w in
-    let site_low : site < 2 ^ 28 = h.0.header.3 (omega arith) in
+    let site_low : site < 2 ^ 28 = h.0.header.3 h.1 in
     dite (ℕ_discrete (tag_of w) 7)
     (λ e. let n : ℕ = size_of w in
-    let n_low : n < 2 ^ 28 = h.0.header.2 (omega arith) in
+    let n_low : n < 2 ^ 28 = h.0.header.2 h.1 in
     let f : following w ≡ n = following_tuple w e in
     let r = parts_of area n (cell + 1) (λ k i. both k (subst (λ (m : ℕ). k < m) (sym f) i)) in
     let made : w ≡ tuple_header_of n site = omega arith in
@@ -94,9 +90,9 @@ closed_by area words parts cells =
 pub entry_tells : (area : List ℕ) (cell : ℕ) → IsClosed area → IsEntryCell area cell → (e : LogEvent) × Tells area cell e
 entry_tells area cell closed h =
     let w : ℕ = slice_index area cell in
-    let low : 8 < tag_of w = h.1 in
-    let high : tag_of w ≤ 11 = h.0.header.1 in
-    let f : following w ≡ payload_of w = following_entry w low in
+    let low : 9 ≤ tag_of w = h.1.0 in
+    let high : tag_of w ≤ 11 = h.1.1 in
+    let f : following w ≡ payload_of w = following_entry w h.1 in
     let first : ℕ = slice_index area (cell + 1) in
     let second : ℕ = slice_index area (cell + 2) in
     dite (ℕ_discrete (tag_of w) 9)
@@ -105,7 +101,7 @@ entry_tells area cell closed h =
     let one : tag_of first ≡ 3 = s.1 in
     let two : tag_of second ≡ 3 = s.2 in
     let m = closed.messages cell h e in
-    (LoggedSend (payload_of first) (payload_of second) m.0, (omega arith, omega arith, omega arith, m.1)))
+    (LoggedSend (payload_of first) (payload_of second) m.0, ((omega arith, omega arith, omega arith), m.1)))
     (λ n. dite (ℕ_discrete (tag_of w) 10)
     (λ e. let s = h.0.shape.1 e in
     let more : 2 ≤ payload_of w = s.0 in
@@ -115,11 +111,11 @@ entry_tells area cell closed h =
     let n : ℕ = payload_of w - 2 in
     let r = parts_of area n (cell + 3) (λ k i. (closed.arguments cell k h e (omega arith), value_not_private (slice_index area (cell + 3 + k)) (value_at area cell (2 + k) (cell + 3 + k) h.0 (omega arith) (omega arith)))) in
     let long : length r.0 ≡ n = r.1 in
-    (LoggedSpawn (payload_of first) (payload_of second) r.0, (omega arith, omega arith, omega arith, count, r.2)))
+    (LoggedSpawn (payload_of first) (payload_of second) r.0, ((omega arith, omega arith, omega arith), count, r.2)))
     (λ o. let e : tag_of w ≡ 11 = omega arith in
     let s = h.0.shape.2 e in
     let two_follow : payload_of w ≡ 2 = s.0 in
     let one : tag_of first ≡ 3 = s.1 in
     let two : tag_of second ≡ 1 = s.2.0 in
     let count : payload_of second < 2 ^ 59 = s.2.1 in
-    (LoggedPrint (payload_of first) (payload_of second), (omega arith, omega arith, omega arith, count))))
+    (LoggedPrint (payload_of first) (payload_of second), ((omega arith, omega arith, omega arith), count))))

@@ -1,7 +1,9 @@
 pub mod Area
 pub mod Log
 pub mod Views
+pub mod Steps
 pub mod Changes
+pub mod Laws
 pub mod Rule
 pub mod Closing
 pub mod Plain

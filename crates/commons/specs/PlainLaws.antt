@@ -4,7 +4,13 @@ use Rattle.commons.specs.declared.plain.PlainCommons.{PlainCommons}
 use Rattle.commons.specs.Plain.{IsLaterIn}
 
 pub same_is_later : (c : PlainCommons) → IsLaterIn c c
-same_is_later c = record { area_size = refl; log_size = refl; area = λ place n. refl; log = ([], sym (append-nil c.log.items)) }
+same_is_later c =
+    record {
+      area_size = refl;
+      log_size = refl;
+      area = λ place n. refl;
+      log = ([], sym (append-nil c.log.items));
+    }
 
 pub later_on : (a b c : PlainCommons) → IsLaterIn a b → IsLaterIn b c → IsLaterIn a c
 later_on a b c f g = record {

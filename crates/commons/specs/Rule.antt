@@ -1,16 +1,17 @@
--- The rule of the commons, over the claim word, the written log words, the area words, and one view for each pass that was ever made.
+-- The rule of the commons, over the claim word, the written log words, the area words, and one view
+-- for each pass that was ever made.
 -- It is the project's own.
-use Rattle.std.specs.Prelude.{◌≡◌, ◌≢◌, ℕ, suc, ◌+◌, ◌*◌, ◌<◌, ◌≤◌, List, [], ◌∷◌, ◌++◌, length, slice_index, slice_set, replicate, Option, Some, None, if◌then◌else◌, ◌==◌}
+use Rattle.std.specs.Prelude.{◌≡◌, ◌≢◌, ℕ, suc, ◌+◌, ◌*◌, ◌<◌, ◌≤◌, List, length, slice_index, Option, Some, None, if◌then◌else◌, ◌==◌}
 use mathlib.Core.Option.{some}
 use lib.ListN.{get_elem?}
 use Rattle.hy_words.specs.Lists.{Grown, StartsWith, Has, total}
-use Rattle.hy_words.specs.Words.{tag_of}
+use Rattle.hy_words.specs.declared.kind.Entry.TheVariants.{Spawn}
+use Rattle.hy_words.specs.Words.{tag_of, tag_of_entry}
 use Rattle.commons.specs.declared.view.View.{View}
 use Rattle.commons.specs.declared.view.Refusal.{Refusal}
 use Rattle.commons.specs.Area.{IsWhole, IsClosed}
 use Rattle.commons.specs.Log.{header_at, actor_of, own_places, IsLog}
 use Rattle.commons.specs.Views.{KnowsCellBy}
-use Rattle.commons.specs.Changes.{longer}
 
 -- how many words were written
 abbrev pub written : List ℕ → ℕ
@@ -39,7 +40,8 @@ pub record HasBlock (area_size claim : ℕ) (area : List ℕ) (start stop : ℕ)
   pub inside : stop ≤ area_size
   pub fresh : (place : ℕ) → start ≤ place → place < stop → slice_index area place ≡ 0
 
--- the known words begin the log, a told list too; the words that were read or written are those that stand there; known cells are whole
+-- the known words begin the log, a told list too; the words that were read or written are those
+-- that stand there; known cells are whole
 pub record HasKnown (area_size : ℕ) (log area known : List ℕ) (told : Option (List ℕ)) (seen : List ℕ) : Type 0 where
   pub begins : StartsWith log known
   pub told_begins : (t : List ℕ) → told ≡ Some t → StartsWith log t
@@ -54,14 +56,17 @@ pub record HasOwn (log area : List ℕ) (pid : ℕ) (own known : List ℕ) : Typ
 
 -- there is a spawn entry at this place of the log
 abbrev pub IsSpawnAt : (log area : List ℕ) → ℕ → Type 0
-IsSpawnAt log area place = (place < length log) × (tag_of (header_at area (slice_index log place)) ≡ 10)
+IsSpawnAt log area place =
+    (place < length log) × (tag_of (header_at area (slice_index log place)) ≡ tag_of_entry Spawn)
 
--- a pid is 0 or one more than the place of a spawn entry, an unborn child one more than that of an own one
+-- a pid is 0 or one more than the place of a spawn entry, an unborn child one more than that of an
+-- own one
 pub record HasPid (log area : List ℕ) (pid : ℕ) (known own : List ℕ) (child : Option ℕ) : Type 0 where
   pub pid_known : pid ≤ length known
   pub own_late : (place : ℕ) → Has own place → pid ≤ place
   pub spawned : (place : ℕ) → pid ≡ suc place → IsSpawnAt log area place
-  pub unborn_own : (q : ℕ) → child ≡ Some q → (place : ℕ) × Has own place × (q ≡ place + 1) × IsSpawnAt log area place
+  pub unborn_own : (q : ℕ) → child ≡ Some q → (place : ℕ) × Has own place × (q ≡ place + 1)
+      × IsSpawnAt log area place
 
 -- a refused claim lies below the claim word
 abbrev pub HasRefusal : (claim : ℕ) → Option Refusal → Type 0
@@ -69,10 +74,15 @@ HasRefusal claim refused = (r : Refusal) → refused ≡ Some r → r.old + r.as
 
 -- what holds of each pass by itself
 pub record IsAccount (area_size claim : ℕ) (log area : List ℕ) (v : View) : Type 0 where
+  -- parts 1 and 2
   pub block : HasBlock area_size claim area v.block_start v.block_end
+  -- part 4
   pub knows : HasKnown area_size log area v.known v.told v.seen
+  -- part 5
   pub owns : HasOwn log area v.pid v.own v.known
+  -- part 6
   pub names : HasPid log area v.pid v.known v.own v.unborn
+  -- part 8
   pub refusal : HasRefusal claim v.refused
 
 -- the unborn child that v names is not w, nor named by w
@@ -82,96 +92,47 @@ IsClear v w = (q : ℕ) → v.unborn ≡ Some q → (w.pid ≢ q) × (w.unborn �
 -- what holds of two passes
 pub record AreApart (v w : View) : Type 0 where
   pub pids : v.pid ≢ w.pid
-  pub blocks : (place : ℕ) → v.block_start ≤ place → place < v.block_end → w.block_start ≤ place → place < w.block_end → ⊥
+  pub blocks : (place : ℕ) → v.block_start ≤ place → place < v.block_end → w.block_start ≤ place
+      → place < w.block_end → ⊥
   pub clear : IsClear v w
   pub clear_back : IsClear w v
 
 abbrev pub At : List View → ℕ → View → Type 0
 At views k v = get_elem? views k ≡ some v
 
+-- the pid is that of a pass
+abbrev pub IsActor : List View → ℕ → Type 0
+IsActor views pid = (k : ℕ) × (v : View) × At views k v × (pid ≡ v.pid)
+
 -- the actor of the entry one below the pid bore the pass
 abbrev pub HasParent : (log area : List ℕ) → List View → View → Type 0
-HasParent log area views v = (place : ℕ) → v.pid ≡ suc place → (j : ℕ) × (u : View) × At views j u × (actor_of area (slice_index log place) ≡ u.pid) × Has u.born v.pid
+HasParent log area views v =
+    (place : ℕ) → v.pid ≡ suc place
+    → (j : ℕ) × (u : View) × At views j u × (actor_of area (slice_index log place) ≡ u.pid)
+    × Has u.born v.pid
 
--- the rule
+-- the rule, in nine parts, and the count of passes
 pub record IsKept (area_size log_size claim : ℕ) (log area : List ℕ) (views : List View) : Type 0 where
-  -- blocks lie below the claim word, known words agree, own entries are exact, pids come from spawn entries
+  -- parts 1, 2, 4, 5, 6 and 8, of each pass by itself
   pub each : (k : ℕ) (v : View) → At views k v → IsAccount area_size claim log area v
-  -- no two blocks overlap; pids differ; an unborn child is nobody's pid and named once
+  -- parts 1 and 6, of each two
   pub apart : (j k : ℕ) (v w : View) → j ≢ k → At views j v → At views k w → AreApart v w
-  -- all words from the claim word on are unwritten
+  -- part 2: all words from the claim word on are unwritten
   pub beyond : (place : ℕ) → claim ≤ place → slice_index area place ≡ 0
+  -- part 3
   pub sized : length area ≡ area_size
   pub closed : IsClosed area
   pub entries : IsLog log_size log area
+  -- part 6: each pass has a parent, but the first
   pub parents : (k : ℕ) (v : View) → At views k v → HasParent log area views v
-  -- the actor of each entry is a pass
-  pub actors : (place : ℕ) → place < length log → (k : ℕ) × (v : View) × At views k v × (actor_of area (slice_index log place) ≡ v.pid)
-  -- the claim word is at most the capacity, and once more the largest request for each refused claim
+  -- part 7: the actor of each entry is a pass
+  pub actors : (place : ℕ) → place < length log
+      → IsActor views (actor_of area (slice_index log place))
+  -- part 8: the claim word is at most the capacity, and once more the largest request for each
+  -- refused claim
   pub bound : claim ≤ area_size + (area_size + 1) * refusals views
+  -- part 9
   pub all_requests : claim ≡ requests views
   pub all_puts : written area ≡ puts views
   -- there are no more passes, born and unborn, than the first and one for each entry
   pub few : length views + unborn views ≤ 1 + length log
-
--- the view after each kind of step
-
--- a claim that fits, and one that is refused
-abbrev pub claimed : View → (old n : ℕ) → View
-claimed v old n = record v { block_start = old; block_end = old + n; requests = v.requests + n }
-
-abbrev pub denied : View → (old n : ℕ) → View
-denied v old n = record v { requests = v.requests + n; refused = Some (record { old = old; asked = n }) }
-
--- a store of the next word of the block
-abbrev pub wrote : View → ℕ → View
-wrote v word = record v { block_start = v.block_start + 1; puts = v.puts + 1; seen = slice_set v.seen v.block_start word }
-
--- a load of an area word
-abbrev pub read : View → (place word : ℕ) → View
-read v place word = record v { seen = slice_set v.seen place word }
-
--- a load, or a lost compare and exchange, that found the next word of the log
-abbrev pub learnt : View → ℕ → View
-learnt v word = record v { known = v.known ++ word ∷ [] }
-
--- a load that found no next word of the log
-abbrev pub looked : View → View
-looked v = record v { looks = v.looks + 1 }
-
--- a compare and exchange that was won
-abbrev pub appended : View → (place word : ℕ) → Option ℕ → View
-appended v place word child = record v { known = v.known ++ word ∷ []; own = v.own ++ place ∷ []; unborn = child }
-
--- a split into a parent and its child
-abbrev pub bore : View → ℕ → View
-bore v q = record v { unborn = None; born = v.born ++ q ∷ [] }
-
-abbrev pub born_of : View → ℕ → View
-born_of v q = record v { pid = q; own = []; born = []; unborn = None; block_start = 0; block_end = 0; looks = 0; puts = 0; requests = 0; refused = None }
-
--- a birth that found no memory
-abbrev pub gave_up : View → View
-gave_up v = record v { unborn = None }
-
--- a join of what another pass knew, and the load that settles it
-abbrev pub told_of : View → List ℕ → View
-told_of v t = record v { told = Some t }
-
-abbrev pub or_nil : Option (List ℕ) → List ℕ
-or_nil None = []
-or_nil (Some t) = t
-
-abbrev pub settled : View → View
-settled v = record v { known = longer v.known (or_nil v.told); told = None }
-
--- the first pass, before it did anything
-abbrev pub first_view : (area_size : ℕ) → View
-first_view area_size = record { pid = 0; known = []; told = None; own = []; born = []; unborn = None; block_start = 0; block_end = 0; seen = replicate area_size 0; looks = 0; puts = 0; requests = 0; refused = None }
-
--- the sizes that a commons may have
-abbrev pub IsAreaSize : ℕ → Type 0
-IsAreaSize n = (256 ≤ n) × (n ≤ 67108864)
-
-abbrev pub IsLogSize : ℕ → Type 0
-IsLogSize n = (1 ≤ n) × (n ≤ 4194304)

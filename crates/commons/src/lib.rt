@@ -3,6 +3,7 @@
 
 mod contract;
 mod entries;
+mod laws;
 mod plain;
 mod plain_calls;
 mod plain_ends;
@@ -11,6 +12,7 @@ mod tests;
 mod view;
 
 pub use contract::{AreaFull, Commons, Link, LogFull};
-pub use entries::{put_print, put_send};
+pub use entries::{entry_kind, put_print, put_send, put_spawn, put_words};
+pub use laws::{knowing_more_keeps_terms, known_places_tell, longer_is_longest};
 pub use plain::{Final, PlainCommons, PlainPass};
 pub use view::{Refusal, View};

@@ -1,5 +1,6 @@
 //! The commons over vectors, for one thread.
 use crate::view::Refusal;
+use hy_words::WordList;
 
 /// What the commons keep of one pass.
 #[derive(Clone, Copy)]
@@ -16,8 +17,9 @@ pub(crate) struct Account {
     pub(crate) refused: Option<Refusal>,
 }
 
-/// The claim word, the written words of the log, the words of the area, and an account for each pass
-/// that was made. Own entries and children aren't stored: they follow from the log and the accounts.
+/// The claim word, the written words of the log, the words of the area, and an account for each
+/// pass that was made. Own entries and children aren't stored: they follow from the log and the
+/// accounts.
 #[derive(Drop)]
 pub struct PlainCommons {
     pub(crate) claim: u64,
@@ -34,11 +36,11 @@ pub struct PlainPass {
     pub(crate) pid: u64,
 }
 
-/// What is left of a commons: the written words of the log, all words of the area with 0 for those that
-/// weren't written, and the claim word.
+/// What is left of a commons: the written words of the log, all words of the area with 0 for those
+/// that weren't written, and the claim word.
 #[derive(Drop)]
 pub struct Final {
-    pub log: Vec<u64>,
-    pub area: Vec<u64>,
+    pub log: WordList,
+    pub area: WordList,
     pub claimed: u64,
 }

@@ -1,18 +1,18 @@
 //! The calls of the plain commons.
-ghost use Rattle.std.specs.Prelude.{◌≡◌, ◌⊎◌, ◌+◌, ◌^◌, ◌<◌, ◌≤◌, length, ◌↔◌, IfSome, IfNone, IsNone};
-ghost use Rattle.commons.specs.Changes.{child_at, Learns, LooksInVain, KeepsOthers};
+ghost use Rattle.std.specs.Prelude.{◌≡◌, ◌⊎◌, ℕ, ◌+◌, ◌^◌, ◌<◌, ◌≤◌, ◌↔◌, length};
+ghost use Rattle.std.specs.Prelude.{IfErr, IfSome, IfNone, IsNone, IsOk, None, OnOk};
+ghost use Rattle.commons.specs.Changes.{child_at, Claims, KeepsOthers, Learns, LooksInVain, Refuses};
 ghost use Rattle.std.proofs.Common.{sym};
 ghost use Rattle.commons.specs.PlainLaws.{same_is_later, later_on};
-ghost use Rattle.commons.specs.Plain.{IsPassIn, IsApartIn, IsLaterIn, view_in, area_size_in, log_size_in, log_in};
+ghost use Rattle.commons.specs.Plain.{IsPassIn, IsApartIn, IsLaterIn, view_in, claim_in};
+ghost use Rattle.commons.specs.Plain.{area_size_in, log_size_in, log_in};
 
 use crate::contract::{AreaFull, Commons, LogFull};
 use crate::plain::{Account, PlainCommons, PlainPass};
 use crate::view::Refusal;
 use hy_terms::Memory;
+use hy_words::tags::SPAWN;
 use hy_words::{payload, tag};
-
-/// The tag of the header of a spawn entry.
-const SPAWN: u8 = 10;
 
 // The child that a spawn entry at this place names.
 fn child_of(header: u64, place: u64) -> Option<u64>
@@ -48,7 +48,26 @@ impl Commons for PlainCommons {
 
     ghost later = { λ c d. IsLaterIn c d };
 
-    fn claim(&mut self, pass: &mut PlainPass, n: u64) -> Result<(), AreaFull> {
+    fn claim(&mut self, pass: &mut PlainPass, n: u64) -> Result<(), AreaFull>
+        requires pass { IsPassIn self.old pass.old }
+        requires first { (view_in self.old pass.old).refused ≡ None }
+        requires bounds { (1 ≤ n) × (n ≤ area_size_in self.old + 1) }
+        ensures later { IsLaterIn self.old self.new }
+        ensures others { KeepsOthers IsPassIn IsApartIn view_in self.old pass.old self.new pass.new }
+        ensures owns { OnOk result ((old : ℕ)
+            × ((view_in self.old pass.old).block_end ≤ old) × (old + n ≤ area_size_in self.old)
+            × Claims (view_in self.old pass.old) old n (view_in self.new pass.new)) }
+        ensures full { IfErr result (λ e. (e.asked ≡ n) × (e.capacity ≡ area_size_in self.old)
+            × (area_size_in self.old < e.old + n)) }
+        ensures refused { IfErr result (λ e.
+            Refuses (view_in self.old pass.old) e.old n (view_in self.new pass.new)) }
+        // On one thread the old word is the claim word itself.
+        ensures claimed { claim_in self.new ≡ claim_in self.old + n }
+        ensures from_claim_word { OnOk result (
+            (view_in self.new pass.new).block_start ≡ claim_in self.old) }
+        ensures found { IfErr result (λ e. e.old ≡ claim_in self.old) }
+        ensures exactly { IsOk result ↔ (claim_in self.old + n ≤ area_size_in self.old) }
+    {
         let old = self.claim;
         let capacity = self.area.len() as u64;
         let mut account = self.accounts[pass.slot];
@@ -104,12 +123,19 @@ impl Commons for PlainCommons {
         requires pass { IsPassIn self.old pass.old }
         ensures later { IsLaterIn self.old self.new }
         ensures others { KeepsOthers IsPassIn IsApartIn view_in self.old pass.old self.new pass.new }
-        ensures place { IfSome result (λ place. (place ≡ length (view_in self.old pass.old).known) × (place < log_size_in self.old)) }
-        ensures learns { IfSome result (λ place. (length (view_in self.new pass.new).known ≡ place + 1) × Learns (view_in self.old pass.old) (view_in self.new pass.new).known (view_in self.new pass.new)) }
-        ensures none { IfNone result (LooksInVain (view_in self.old pass.old) (view_in self.new pass.new)) }
+        ensures place { IfSome result (λ place.
+            (place ≡ length (view_in self.old pass.old).known) × (place < log_size_in self.old)) }
+        ensures learns { IfSome result (λ place. (length (view_in self.new pass.new).known ≡ place + 1)
+            × Learns (view_in self.old pass.old) (view_in self.new pass.new).known
+            (view_in self.new pass.new)) }
+        ensures none { IfNone result (
+            LooksInVain (view_in self.old pass.old) (view_in self.new pass.new)) }
         // On one thread it finds nothing exactly where the pass knows all that was written.
-        ensures exactly { IsNone result ↔ (length (view_in self.old pass.old).known ≡ length (log_in self.old)) }
-        ensures last_count { IfNone result ((view_in self.old pass.old).looks ≡ 18446744073709551615 → (view_in self.new pass.new).looks ≡ 18446744073709551615) }
+        ensures exactly { IsNone result ↔
+            (length (view_in self.old pass.old).known ≡ length (log_in self.old)) }
+        ensures last_count { IfNone result (
+            (view_in self.old pass.old).looks ≡ 18446744073709551615
+            → (view_in self.new pass.new).looks ≡ 18446744073709551615) }
     {
         let mut account = self.accounts[pass.slot];
         let place = account.known;

@@ -1,16 +1,21 @@
 //! The beginning and the end of the plain commons.
-ghost use Rattle.std.specs.Prelude.{◌≡◌, ◌+◌, ◌≤◌, IfOk, map};
+ghost use Rattle.std.specs.Prelude.{◌≡◌, IfOk, map};
 ghost use Rattle.std.specs.List.{All, AllPairs};
-ghost use Rattle.commons.specs.Rule.{first_view, IsAreaSize, IsLogSize};
-ghost use Rattle.commons.specs.Closing.{HasChildren, IsLeft};
+ghost use Rattle.commons.specs.Views.{IsAreaSize, IsLogSize};
+ghost use Rattle.commons.specs.Rule.{IsKept};
+ghost use Rattle.commons.specs.Steps.{first_view};
+ghost use Rattle.commons.specs.Closing.{HasChildren};
 ghost use Rattle.commons.specs.Plain.{IsPassIn, IsApartIn, view_in, area_size_in, log_size_in};
 
 use crate::plain::{Account, Final, PlainCommons, PlainPass};
 use hy_terms::Memory;
+use hy_words::WordList;
 use std::alloc::Global;
 
 impl PlainCommons {
-    /// A commons with `area` words and `log` places of which none is written, and the pass with pid 0.
+    /// A commons with `area` words and `log` places of which none is written, and the pass with pid
+    /// 0, which knows nothing yet. `area` is from 256 to 67,108,864, and `log` from 1 to 4,194,304.
+    /// It takes all memory that the commons will need, but that for the passes of children.
     pub fn new(alloc: Global, area: u64, log: u64) -> Result<(PlainCommons, PlainPass), Memory>
         requires area { IsAreaSize area }
         requires log { IsLogSize log }
@@ -43,17 +48,19 @@ impl PlainCommons {
         Ok((commons, PlainPass { slot: 0, pid: 0 }))
     }
 
-    /// The end of the commons, where all its passes are given back. It takes no memory.
+    /// The end of the commons, where all its passes are given back: the one with pid 0 and, with
+    /// each pass, the children that it bore. The rule holds of what is left. It takes no memory.
     pub fn close(self, passes: Vec<PlainPass>) -> Result<Final, Memory>
         requires passes { All (λ p. IsPassIn self p) passes.items }
         requires apart { AllPairs IsApartIn passes.items }
         requires children { HasChildren (map (view_in self) passes.items) }
-        ensures { IfOk result (λ f. IsLeft (area_size_in self) (log_size_in self) f.claimed f.log.items f.area.items (map (view_in self) passes.items)) }
+        ensures rule { IfOk result (λ f. IsKept (area_size_in self) (log_size_in self)
+            f.claimed f.log f.area (map (view_in self) passes.items)) }
     {
         drop(passes);
         Ok(Final {
-            log: self.log,
-            area: self.area,
+            log: WordList::from_vec(self.log),
+            area: WordList::from_vec(self.area),
             claimed: self.claim,
         })
     }
