@@ -1,5 +1,5 @@
 -- In a closed area each value stands for a term, and each whole entry tells an event.
-use Rattle.std.proofs.Common.{◌≡◌, ◌≢◌, ◌⊎◌, ℕ, ℤ, zero, suc, ◌+◌, ◌-◌, ◌^◌, ◌<◌, ◌≤◌, List, [], ◌∷◌, length, sym, refl, ap, ◌∙◌, ⊎_elim, subst, arith}
+use Rattle.std.proofs.Common.{◌≡◌, ◌≢◌, ◌⊎◌, ℕ, zero, suc, ◌+◌, ◌-◌, ◌^◌, ◌<◌, ◌≤◌, List, [], ◌∷◌, length, sym, refl, ap, ⊎_elim, subst, arith}
 use Rattle.std.specs.Prelude.{slice_index}
 use native.Mathlib.Decide.{ℕ_discrete}
 use mathlib.Core.Logic.{dite}
@@ -7,31 +7,17 @@ use Rattle.hy_terms.specs.declared.term.Colour.TheVariants.{Shared}
 use Rattle.hy_terms.specs.Labelled.{Labelled, labels_of}
 use Rattle.hy_terms.specs.Labelled as l
 use Rattle.hy_words.specs.Lists.{Grown}
-use Rattle.hy_words.specs.Words.{tag_of, payload_of, size_of, site_of, area_word_of, word_of, number_word, number_of, IsHeader, IsScalar, IsValue, following, tuple_header_of, cons_header_of}
-use Rattle.hy_words.specs.Stands.{Stands, PartsStand, of_int, of_atom, of_pid, of_nil, of_cons, of_tuple, no_parts, more_parts}
-use Rattle.hy_words.proofs.Numbers.{number_back}
+use Rattle.hy_words.specs.Words.{tag_of, payload_of, size_of, site_of, area_word_of, IsHeader, IsScalar, IsValue, following, tuple_header_of, cons_header_of}
+use Rattle.hy_words.specs.Stands.{PartsStand, of_cons, of_tuple, no_parts, more_parts}
+use Rattle.hy_words.proofs.Scalars.{scalar_stands}
 use Rattle.hy_words.proofs.Standing.{stands_grows}
 use Rattle.commons.specs.Area.{IsTermCell, IsEntryCell, StandsInArea, IsClosed}
 use Rattle.commons.specs.Log.{LogEvent, LoggedSend, LoggedSpawn, LoggedPrint, Tells}
 use Rattle.commons.proofs.Cells.{value_not_private, following_tuple, following_cons, following_entry, value_at, grown_same}
 
--- a scalar stands for itself
-pub scalar_stands : (area : List ℕ) (w : ℕ) → IsScalar w → StandsInArea area w
-scalar_stands area w s =
-    let low = s.0 in
-    let high = s.1 in
-    let word = s.2 in
-    dite (ℕ_discrete (tag_of w) 1)
-    (λ e. let b = number_back (payload_of w) (omega arith) in let n : ℤ = number_of (payload_of w) in let same : number_word n ≡ w = ap (λ (p : ℕ). word_of 1 p) b.1 ∙ (let z : word_of 1 (payload_of w) ≡ w = omega arith in z) in (l.Int n, subst (Stands [] area (l.Int n)) same (of_int n b.0)))
-    (λ n1. dite (ℕ_discrete (tag_of w) 2)
-    (λ e. let same : word_of 2 (payload_of w) ≡ w = omega arith in (l.Atom (payload_of w), subst (Stands [] area (l.Atom (payload_of w))) same (of_atom (payload_of w) (s.3 e))))
-    (λ n2. dite (ℕ_discrete (tag_of w) 3)
-    (λ e. let same : word_of 3 (payload_of w) ≡ w = omega arith in (l.Pid (payload_of w), subst (Stands [] area (l.Pid (payload_of w))) same (of_pid (payload_of w) (s.4 e))))
-    (λ n3. let e : tag_of w ≡ 4 = omega arith in let z = s.5 e in let same : 4 ≡ w = omega arith in (l.Nil, subst (Stands [] area l.Nil) same of_nil))))
-
 -- a value whose cell stands for a term, if it has one, stands for a term
 pub value_stands : (area : List ℕ) (w : ℕ) → (tag_of w ≡ 6 → StandsInArea area (area_word_of (payload_of w))) → IsValue w → StandsInArea area w
-value_stands area w named v = ⊎_elim (λ (s : IsScalar w). scalar_stands area w s)
+value_stands area w named v = ⊎_elim (λ (s : IsScalar w). scalar_stands [] area w s)
     (λ (six : tag_of w ≡ 6). let same : area_word_of (payload_of w) ≡ w = omega arith in subst (StandsInArea area) same (named six)) v
 
 pub in_grown : (a b : List ℕ) (w : ℕ) → Grown a b → StandsInArea a w → StandsInArea b w

@@ -4,7 +4,8 @@ use Rattle.hy_words.specs.Words.{tag_of, payload_of, area_word_of, word_of, numb
 use Rattle.commons.specs.declared.view.View.{View}
 use Rattle.commons.specs.Area.{HasShape}
 use Rattle.hy_terms.specs.Range.{IsNumber}
-use Rattle.hy_words.proofs.Numbers.{below_number, number_fits}
+use Rattle.hy_terms.proofs.RangeLemmas.{below_number}
+use Rattle.hy_words.proofs.Numbers.{number_fits}
 use Rattle.commons.specs.Log.{HasWords}
 use Rattle.commons.specs.Views.{MayPut}
 use Rattle.commons.proofs.Cells.{header_not_zero, value_not_zero}
