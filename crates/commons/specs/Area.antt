@@ -22,7 +22,8 @@ pub record IsWhole (area : List ℕ) (cell : ℕ) : Type 0 where
   pub header : IsHeader (slice_index area cell)
   pub values : (k : ℕ) → k < following (slice_index area cell)
       → IsValue (slice_index area (cell + 1 + k))
-  pub shape : HasShape (slice_index area cell) (slice_index area (cell + 1)) (slice_index area (cell + 2))
+  pub shape : HasShape (slice_index area cell) (slice_index area (cell + 1))
+      (slice_index area (cell + 2))
 
 -- a whole tuple or cons
 abbrev pub IsTermCell : List ℕ → ℕ → Type 0

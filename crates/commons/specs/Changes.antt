@@ -49,7 +49,8 @@ abbrev pub Appends : View → (entry place : ℕ) → View → Type 0
 Appends v entry place w =
     (between : List ℕ)
     × IsSameButSeen
-    (appended (knowing v (v.known ++ between)) place entry (child_at (header_at v.seen entry) place)) w
+    (appended (knowing v (v.known ++ between)) place entry
+    (child_at (header_at v.seen entry) place)) w
     × (length w.known ≡ place + 1)
 
 -- one more empty look, unless the count stands at the last value of 64 bits and stays there

@@ -40,7 +40,8 @@ prints area pid log = total (λ w. if is_print_of area pid w then 1 else 0) log
 abbrev pub prints_at : List ℕ → List ℕ → List ℕ → ℕ
 prints_at area log places =
     total
-    (λ place. if tag_of (header_at area (slice_index log place)) == tag_of_entry Print then 1 else 0)
+    (λ place. if tag_of (header_at area (slice_index log place)) == tag_of_entry Print then 1
+    else 0)
     places
 
 -- the event of an actor that an entry tells: a message and arguments are labelled terms, a text is

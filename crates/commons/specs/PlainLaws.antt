@@ -17,5 +17,9 @@ later_on a b c f g = record {
   area_size = g.area_size ∙ f.area_size;
   log_size = g.log_size ∙ f.log_size;
   area = λ place n. let e = f.area place n in g.area place (λ z. n (sym e ∙ z)) ∙ e;
-  log = (f.log.0 ++ g.log.0, g.log.1 ∙ (ap (λ (x : List ℕ). x ++ g.log.0) f.log.1 ∙ append_assoc a.log.items f.log.0 g.log.0));
+  log = (
+    f.log.0 ++ g.log.0,
+    g.log.1
+        ∙ (ap (λ (x : List ℕ). x ++ g.log.0) f.log.1 ∙ append_assoc a.log.items f.log.0 g.log.0),
+  );
 }

@@ -42,7 +42,8 @@ pub record HasBlock (area_size claim : ℕ) (area : List ℕ) (start stop : ℕ)
 
 -- the known words begin the log, a told list too; the words that were read or written are those
 -- that stand there; known cells are whole
-pub record HasKnown (area_size : ℕ) (log area known : List ℕ) (told : Option (List ℕ)) (seen : List ℕ) : Type 0 where
+pub record HasKnown (area_size : ℕ) (log area known : List ℕ) (told : Option (List ℕ))
+    (seen : List ℕ) : Type 0 where
   pub begins : StartsWith log known
   pub told_begins : (t : List ℕ) → told ≡ Some t → StartsWith log t
   pub wide : length seen ≡ area_size
@@ -61,7 +62,8 @@ IsSpawnAt log area place =
 
 -- a pid is 0 or one more than the place of a spawn entry, an unborn child one more than that of an
 -- own one
-pub record HasPid (log area : List ℕ) (pid : ℕ) (known own : List ℕ) (child : Option ℕ) : Type 0 where
+pub record HasPid (log area : List ℕ) (pid : ℕ) (known own : List ℕ)
+    (child : Option ℕ) : Type 0 where
   pub pid_known : pid ≤ length known
   pub own_late : (place : ℕ) → Has own place → pid ≤ place
   pub spawned : (place : ℕ) → pid ≡ suc place → IsSpawnAt log area place
@@ -112,7 +114,8 @@ HasParent log area views v =
     × Has u.born v.pid
 
 -- the rule, in nine parts, and the count of passes
-pub record IsKept (area_size log_size claim : ℕ) (log area : List ℕ) (views : List View) : Type 0 where
+pub record IsKept (area_size log_size claim : ℕ) (log area : List ℕ)
+    (views : List View) : Type 0 where
   -- parts 1, 2, 4, 5, 6 and 8, of each pass by itself
   pub each : (k : ℕ) (v : View) → At views k v → IsAccount area_size claim log area v
   -- parts 1 and 6, of each two

@@ -53,7 +53,8 @@ impl Commons for PlainCommons {
         requires first { (view_in self.old pass.old).refused ≡ None }
         requires bounds { (1 ≤ n) × (n ≤ area_size_in self.old + 1) }
         ensures later { IsLaterIn self.old self.new }
-        ensures others { KeepsOthers IsPassIn IsApartIn view_in self.old pass.old self.new pass.new }
+        ensures others { KeepsOthers IsPassIn IsApartIn view_in self.old pass.old
+            self.new pass.new }
         ensures owns { OnOk result ((old : ℕ)
             × ((view_in self.old pass.old).block_end ≤ old) × (old + n ≤ area_size_in self.old)
             × Claims (view_in self.old pass.old) old n (view_in self.new pass.new)) }
@@ -122,10 +123,12 @@ impl Commons for PlainCommons {
     fn look(&mut self, pass: &mut PlainPass) -> Option<u64>
         requires pass { IsPassIn self.old pass.old }
         ensures later { IsLaterIn self.old self.new }
-        ensures others { KeepsOthers IsPassIn IsApartIn view_in self.old pass.old self.new pass.new }
+        ensures others { KeepsOthers IsPassIn IsApartIn view_in self.old pass.old
+            self.new pass.new }
         ensures place { IfSome result (λ place.
             (place ≡ length (view_in self.old pass.old).known) × (place < log_size_in self.old)) }
-        ensures learns { IfSome result (λ place. (length (view_in self.new pass.new).known ≡ place + 1)
+        ensures learns { IfSome result (λ place.
+            (length (view_in self.new pass.new).known ≡ place + 1)
             × Learns (view_in self.old pass.old) (view_in self.new pass.new).known
             (view_in self.new pass.new)) }
         ensures none { IfNone result (

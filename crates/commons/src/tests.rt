@@ -99,7 +99,8 @@ fn read_message<C: Commons>(c: &mut C, pass: &mut C::Pass) -> Result<(u64, u64),
     requires pass { C.is_pass c.old pass.old }
     ensures later { C.later c.old c.new }
     ensures others { KeepsOthers C.is_pass C.apart C.view c.old pass.old c.new pass.new }
-    ensures message { IfOk result (λ read. MayShare (C.area_size c.new) (C.view c.new pass.new) read.1) }
+    ensures message { IfOk result (λ read. MayShare (C.area_size c.new)
+        (C.view c.new pass.new) read.1) }
     ensures again { OnOk result (((C.view c.new pass.new).refused ≡ (C.view c.old pass.old).refused)
         × ((C.view c.new pass.new).unborn ≡ (C.view c.old pass.old).unborn)) }
     ensures same { OnOk result (((C.view c.new pass.new).pid ≡ (C.view c.old pass.old).pid)

@@ -10,7 +10,7 @@ use Rattle.hy_terms.specs.TermOrder.{compare}
 use Rattle.hy_core.specs.declared.bif.Bif.{Bif}
 use Rattle.hy_core.specs.declared.bif.Bif.TheVariants as b
 use Rattle.hy_core.specs.ArgumentLaws.{AnswersItsArguments}
-use Rattle.hy_core.specs.BuiltIn.{Answer, Value, NoAnswer, truth, in_range, system_limit, badarith, badarg, on_number, on_numbers, quotient, remainder, on_truths, on_truth, or_badarg, element, head_of, tail_of, length_of, or_no_length, size_answer, of_none, of_one, of_two, number, truth_value, is_number, is_atom, is_truth, is_pid, is_list, is_tuple, exclusive_or, is_less, is_equal, is_greater, answer, Operation, Plain, Row, operations, operation_in}
+use Rattle.hy_core.specs.BuiltIn.{Answer, Value, NoAnswer, truth, in_range, system_limit, badarith, badarg, on_number, on_numbers, quotient, remainder, on_truths, on_truth, or_badarg, element, head_of, tail_of, length_of, or_no_length, size_answer, of_none, of_one, of_two, number, truth_value, is_number, is_atom, is_truth, is_pid, is_list, is_tuple, exclusive_or, is_less, is_equal, is_greater, answer, Operation, Plain, SetsElement, Sends, Spawns, Displays, RaisesAs, Row, operations, operation_in, operation_of}
 
 -- answers
 
@@ -163,15 +163,20 @@ takes atoms pid b.Tl = takes_one (λ t. or_badarg (tail_of t)) (λ t. part_answe
 takes atoms pid b.Length = takes_one (λ t. or_no_length (length_of t)) (λ t. length_answers (length_of t))
 takes atoms pid b.SelfPid = takes_none (Value (Pid pid)) (λ e. cc)
 
--- each row's number of arguments is that of its built-in
+-- how many arguments an operation takes
+abbrev pub arguments_of : Operation → ℕ
+arguments_of (Plain f) = arity_of f
+arguments_of SetsElement = 3
+arguments_of Sends = 2
+arguments_of Spawns = 3
+arguments_of Displays = 1
+arguments_of (RaisesAs class) = 1
 
-abbrev fits : ℕ → Operation → Bool
-fits n (Plain f) = n == arity_of f
-fits n _ = true
+-- each row's number of arguments is that of its operation
 
 abbrev all_fit : List Row → Bool
 all_fit [] = true
-all_fit (r ∷ rs) = if fits r.arity r.operation then all_fit rs else false
+all_fit (r ∷ rs) = if r.arity == arguments_of r.operation then all_fit rs else false
 
 both_true : (v w : Bool) → (if v then w else false) ≡ true → (v ≡ true) × (w ≡ true)
 both_true true w h = (refl, h)
@@ -181,24 +186,28 @@ and_true : (v w : Bool) → (v && w) ≡ true → (v ≡ true) × (w ≡ true)
 and_true true w h = (refl, h)
 and_true false w h = absurd cc
 
-fits_plain : (n m : ℕ) (o : Operation) (f : Bif) → (n == m) ≡ true → fits n o ≡ true → o ≡ Plain f → m ≡ arity_of f
-fits_plain n m o f e h p =
-    let fit : (n == arity_of f) ≡ true = ap (fits n) (sym p) ∙ h in
-    sym ((Decides-eqb n m).0 e) ∙ (Decides-eqb n (arity_of f)).0 fit
+fits : (n m : ℕ) (o p : Operation) → (n == m) ≡ true → (n == arguments_of o) ≡ true → o ≡ p → m ≡ arguments_of p
+fits n m o p e h is =
+    let fit : (n == arguments_of p) ≡ true = ap (λ q. n == arguments_of q) (sym is) ∙ h in
+    sym ((Decides-eqb n m).0 e) ∙ (Decides-eqb n (arguments_of p)).0 fit
 
-by_row : (v : Bool) (o : Operation) (rest : Option Operation) (f : Bif) (P : Type 0) → (v ≡ true → o ≡ Plain f → P) → (rest ≡ Some (Plain f) → P) → (if v then Some o else rest) ≡ Some (Plain f) → P
-by_row true o rest f P h k e = let same : o ≡ Plain f = cc in h refl same
-by_row false o rest f P h k e = k e
+by_row : (v : Bool) (o p : Operation) (rest : Option Operation) (P : Type 0) → (v ≡ true → o ≡ p → P) → (rest ≡ Some p → P) → (if v then Some o else rest) ≡ Some p → P
+by_row true o p rest P h k e = let same : o ≡ p = cc in h refl same
+by_row false o p rest P h k e = k e
 
-arity_is : (rs : List Row) (name : List ℕ) (n : ℕ) (f : Bif) → all_fit rs ≡ true → operation_in rs name n ≡ Some (Plain f) → n ≡ arity_of f
-arity_is [] name n f h e = absurd cc
-arity_is (r ∷ rs) name n f h e =
-    let both = both_true (fits r.arity r.operation) (all_fit rs) h in
-    by_row (bytes_eq r.name name && (r.arity == n)) r.operation (operation_in rs name n) f (n ≡ arity_of f)
-    (λ v p. fits_plain r.arity n r.operation f (and_true (bytes_eq r.name name) (r.arity == n) v).1 both.0 p) (λ k. arity_is rs name n f both.1 k) e
+arity_is : (rs : List Row) (name : List ℕ) (n : ℕ) (o : Operation) → all_fit rs ≡ true → operation_in rs name n ≡ Some o → n ≡ arguments_of o
+arity_is [] name n o h e = absurd cc
+arity_is (r ∷ rs) name n o h e =
+    let both = both_true (r.arity == arguments_of r.operation) (all_fit rs) h in
+    by_row (bytes_eq r.name name && (r.arity == n)) r.operation o (operation_in rs name n) (n ≡ arguments_of o)
+    (λ v is. fits r.arity n r.operation o (and_true (bytes_eq r.name name) (r.arity == n) v).1 both.0 is) (λ k. arity_is rs name n o both.1 k) e
+
+-- a call that names an operation has as many arguments as it takes
+pub operation_arity : (name : List ℕ) (n : ℕ) (o : Operation) → operation_of name n ≡ Some o → n ≡ arguments_of o
+operation_arity name n o e = arity_is operations name n o refl e
 
 pub answers_its_arguments : (atoms : List (List ℕ)) (pid : ℕ) → AnswersItsArguments atoms pid
 answers_its_arguments atoms pid name arity f h ts =
-    let n = arity_is operations name arity f refl h in
+    let n = operation_arity name arity (Plain f) h in
     let t = takes atoms pid f ts in
     (λ e l. t.0 e (l ∙ n), λ k. t.1 (λ l. k (l ∙ sym n)))

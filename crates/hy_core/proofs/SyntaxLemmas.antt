@@ -44,10 +44,10 @@ pattern_of-List heads tail = ap pattern_of (sym (p.rolls-List heads tail)) ∙ f
 pattern_of-Alias : (x : ℕ) (q : declared.Pattern) → pattern_of (p.Alias x q) ≡ pattern_step (pattern_layer.Alias x (pattern_of q))
 pattern_of-Alias x q = ap pattern_of (sym (p.rolls-Alias x q)) ∙ fold-roll-Pattern Pattern pattern_step (pattern_layer.Alias x q)
 
-abbrev clause_of : Clause → ClauseSyntax
+abbrev pub clause_of : Clause → ClauseSyntax
 clause_of = fold-Clause Syntax ClauseSyntax DefinitionSyntax syntax_step clause_step definition_step
 
-abbrev definition_of : Function → DefinitionSyntax
+abbrev pub definition_of : Function → DefinitionSyntax
 definition_of = fold-Function Syntax ClauseSyntax DefinitionSyntax syntax_step clause_step definition_step
 
 pub syntax_of-Int : (n : ℤ) → syntax_of (e.Int n) ≡ syntax_step (layer.Int n)
@@ -110,10 +110,10 @@ syntax_of-Catch body = ap syntax_of (sym (e.rolls-Catch body)) ∙ fold-roll-Exp
 pub syntax_of-Fun : (params : List ℕ) (body : Expr) → syntax_of (e.Fun params body) ≡ syntax_step (layer.Fun params (syntax_of body))
 syntax_of-Fun params body = ap syntax_of (sym (e.rolls-Fun params body)) ∙ fold-roll-Expr Syntax ClauseSyntax DefinitionSyntax syntax_step clause_step definition_step (layer.Fun params body)
 
-clause_of-is : (c : Clause) → clause_of c ≡ clause_step (record { patterns = c.patterns; guard = syntax_of c.guard; body = syntax_of c.body })
+pub clause_of-is : (c : Clause) → clause_of c ≡ clause_step (record { patterns = c.patterns; guard = syntax_of c.guard; body = syntax_of c.body })
 clause_of-is c = fold_out-Clause Syntax ClauseSyntax DefinitionSyntax syntax_step clause_step definition_step c
 
-definition_of-is : (f : Function) → definition_of f ≡ definition_step (record { name = f.name; params = f.params; body = syntax_of f.body })
+pub definition_of-is : (f : Function) → definition_of f ≡ definition_step (record { name = f.name; params = f.params; body = syntax_of f.body })
 definition_of-is f = fold_out-Function Syntax ClauseSyntax DefinitionSyntax syntax_step clause_step definition_step f
 
 -- there and back, from the syntax
@@ -217,14 +217,14 @@ pattern_comes_back_at y = ap pattern_tree (fold-roll-Pattern Pattern pattern_ste
         (λ i. p.List (pattern_items_back qs i) (q.1 i)) ∙ sym (p.rolls-List (map (λ x. x.0) qs) q.0)
     again (pattern_layer.Alias x q) = ap (p.Alias x) q.1 ∙ sym (p.rolls-Alias x q.0)
 
-pattern_comes_back : (q : declared.Pattern) → PatternComesBack q
+pub pattern_comes_back : (q : declared.Pattern) → PatternComesBack q
 pattern_comes_back = ind-Pattern PatternComesBack (λ x y is. subst (λ z. PatternComesBack (roll-Pattern z)) is (pattern_comes_back_at y))
 
-patterns_come_back : (qs : List declared.Pattern) → pattern_trees (patterns_of (map pattern_of qs)) ≡ qs
+pub patterns_come_back : (qs : List declared.Pattern) → pattern_trees (patterns_of (map pattern_of qs)) ≡ qs
 patterns_come_back [] = refl
 patterns_come_back (q ∷ qs) = λ i. pattern_comes_back q i ∷ patterns_come_back qs i
 
-abbrev ComesBack : Expr → Type 0
+abbrev pub ComesBack : Expr → Type 0
 ComesBack x = tree (syntax_of x) ≡ x
 
 abbrev clause_again : ClauseSyntax → Clause
@@ -300,7 +300,7 @@ comes_back_at : (y : Layer) → ComesBack (roll-Expr (bare y))
 comes_back_at y =
     ap tree (fold-roll-Expr Syntax ClauseSyntax DefinitionSyntax syntax_step clause_step definition_step (bare y)) ∙ again y
 
-comes_back : (x : Expr) → ComesBack x
+pub comes_back : (x : Expr) → ComesBack x
 comes_back = ind-Expr ComesBack ClauseComesBack DefinitionComesBack
     (λ x y is. subst (λ z. ComesBack (roll-Expr z)) is (comes_back_at y))
     (λ x y is. subst (λ z. ClauseComesBack (roll-Clause z)) is

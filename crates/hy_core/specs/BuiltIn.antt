@@ -24,7 +24,8 @@ pub data Answer : Type 0 where
 -- the atoms with which the table of each program begins: this project's own
 abbrev pub own_atoms : List (List ℕ)
 own_atoms =
-    codes "true" ∷ codes "false" ∷ codes "badarith" ∷ codes "badarg" ∷ codes "system_limit" ∷ codes "no_clause" ∷ codes "function_clause" ∷ []
+    codes "true" ∷ codes "false" ∷ codes "badarith" ∷ codes "badarg" ∷ codes "system_limit"
+    ∷ codes "no_clause" ∷ codes "function_clause" ∷ []
 
 -- truth values are the atoms 'true' and 'false'
 abbrev pub truth : Bool → Term
@@ -248,7 +249,8 @@ module _ (atoms : List (List ℕ)) where
   answer pid b.Band = arithmetic (bits (int_bit_and w64))
   answer pid b.Bor = arithmetic (bits (int_bit_or w64))
   answer pid b.Bxor = arithmetic (bits (int_bit_xor w64))
-  answer pid b.Abs = of_one (λ t. on_number badarg (λ n. in_range (pos (unsigned_abs n))) (number t))
+  answer pid b.Abs =
+      of_one (λ t. on_number badarg (λ n. in_range (pos (unsigned_abs n))) (number t))
   answer pid b.And = logic ◌&&◌
   answer pid b.Or = logic ◌||◌
   answer pid b.Xor = logic exclusive_or
@@ -296,27 +298,37 @@ row name arity operation = record { name = name; arity = arity; operation = oper
 -- all built-ins of the module 'erlang'
 abbrev pub operations : List Row
 operations =
-    row (codes "+") 2 (Plain b.Add) ∷ row (codes "-") 2 (Plain b.Sub) ∷ row (codes "*") 2 (Plain b.Mul) ∷ row (codes "-") 1 (Plain b.Neg)
+    row (codes "+") 2 (Plain b.Add) ∷ row (codes "-") 2 (Plain b.Sub) ∷ row (codes "*") 2
+    (Plain b.Mul) ∷ row (codes "-") 1 (Plain b.Neg)
     ∷ row (codes "div") 2 (Plain b.Div) ∷ row (codes "rem") 2 (Plain b.Rem)
-    ∷ row (codes "band") 2 (Plain b.Band) ∷ row (codes "bor") 2 (Plain b.Bor) ∷ row (codes "bxor") 2 (Plain b.Bxor)
+    ∷ row (codes "band") 2 (Plain b.Band) ∷ row (codes "bor") 2 (Plain b.Bor)
+    ∷ row (codes "bxor") 2 (Plain b.Bxor)
     ∷ row (codes "abs") 1 (Plain b.Abs)
-    ∷ row (codes "and") 2 (Plain b.And) ∷ row (codes "or") 2 (Plain b.Or) ∷ row (codes "xor") 2 (Plain b.Xor) ∷ row (codes "not") 1 (Plain b.Not)
-    ∷ row (codes "is_integer") 1 (Plain b.IsInteger) ∷ row (codes "is_number") 1 (Plain b.IsNumber) ∷ row (codes "is_atom") 1 (Plain b.IsAtom)
-    ∷ row (codes "is_boolean") 1 (Plain b.IsBoolean) ∷ row (codes "is_pid") 1 (Plain b.IsPid) ∷ row (codes "is_list") 1 (Plain b.IsList) ∷ row (codes "is_tuple") 1 (Plain b.IsTuple)
+    ∷ row (codes "and") 2 (Plain b.And) ∷ row (codes "or") 2 (Plain b.Or)
+    ∷ row (codes "xor") 2 (Plain b.Xor) ∷ row (codes "not") 1 (Plain b.Not)
+    ∷ row (codes "is_integer") 1 (Plain b.IsInteger) ∷ row (codes "is_number") 1 (Plain b.IsNumber)
+    ∷ row (codes "is_atom") 1 (Plain b.IsAtom)
+    ∷ row (codes "is_boolean") 1 (Plain b.IsBoolean) ∷ row (codes "is_pid") 1 (Plain b.IsPid)
+    ∷ row (codes "is_list") 1 (Plain b.IsList) ∷ row (codes "is_tuple") 1 (Plain b.IsTuple)
     ∷ row (codes "tuple_size") 1 (Plain b.TupleSize)
-    ∷ row (codes "=:=") 2 (Plain b.Same) ∷ row (codes "==") 2 (Plain b.Equal) ∷ row (codes "=/=") 2 (Plain b.NotSame) ∷ row (codes "/=") 2 (Plain b.NotEqual)
-    ∷ row (codes "<") 2 (Plain b.Less) ∷ row (codes ">") 2 (Plain b.Greater) ∷ row (codes "=<") 2 (Plain b.AtMost) ∷ row (codes ">=") 2 (Plain b.AtLeast)
-    ∷ row (codes "element") 2 (Plain b.Element) ∷ row (codes "hd") 1 (Plain b.Hd) ∷ row (codes "tl") 1 (Plain b.Tl) ∷ row (codes "length") 1 (Plain b.Length)
+    ∷ row (codes "=:=") 2 (Plain b.Same) ∷ row (codes "==") 2 (Plain b.Equal)
+    ∷ row (codes "=/=") 2 (Plain b.NotSame) ∷ row (codes "/=") 2 (Plain b.NotEqual)
+    ∷ row (codes "<") 2 (Plain b.Less) ∷ row (codes ">") 2 (Plain b.Greater)
+    ∷ row (codes "=<") 2 (Plain b.AtMost) ∷ row (codes ">=") 2 (Plain b.AtLeast)
+    ∷ row (codes "element") 2 (Plain b.Element) ∷ row (codes "hd") 1 (Plain b.Hd)
+    ∷ row (codes "tl") 1 (Plain b.Tl) ∷ row (codes "length") 1 (Plain b.Length)
     ∷ row (codes "self") 0 (Plain b.SelfPid)
     ∷ row (codes "setelement") 3 SetsElement
     ∷ row (codes "!") 2 Sends ∷ row (codes "send") 2 Sends
     ∷ row (codes "spawn") 3 Spawns
     ∷ row (codes "display") 1 Displays
-    ∷ row (codes "error") 1 (RaisesAs Error) ∷ row (codes "exit") 1 (RaisesAs Exit) ∷ row (codes "throw") 1 (RaisesAs Throw) ∷ []
+    ∷ row (codes "error") 1 (RaisesAs Error) ∷ row (codes "exit") 1 (RaisesAs Exit)
+    ∷ row (codes "throw") 1 (RaisesAs Throw) ∷ []
 
 abbrev pub operation_in : List Row → List ℕ → ℕ → Option Operation
 operation_in [] name arity = None
-operation_in (r ∷ rs) name arity = if bytes_eq r.name name && (r.arity == arity) then Some r.operation else operation_in rs name arity
+operation_in (r ∷ rs) name arity = if bytes_eq r.name name && (r.arity == arity)
+    then Some r.operation else operation_in rs name arity
 
 -- the built-in of this name and number of arguments
 abbrev pub operation_of : List ℕ → ℕ → Option Operation
@@ -324,4 +336,5 @@ operation_of = operation_in operations
 
 -- the built-in that a call of this module and name with so many arguments is, where it is one
 abbrev pub operation_named : List ℕ → List ℕ → ℕ → Option Operation
-operation_named module_name name arity = if bytes_eq module_name (codes "erlang") then operation_of name arity else None
+operation_named module_name name arity =
+    if bytes_eq module_name (codes "erlang") then operation_of name arity else None

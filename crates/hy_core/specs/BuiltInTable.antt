@@ -136,5 +136,7 @@ pub record TermsAreCompared : Type 0 where
 
 -- `==` is `=:=`, and `/=` is `=/=`
 pub record EqualIsSame : Type 0 where
-  pub equal : (atoms : List (List ℕ)) (pid : ℕ) (ts : List Term) → answer atoms pid b.Equal ts ≡ answer atoms pid b.Same ts
-  pub not_equal : (atoms : List (List ℕ)) (pid : ℕ) (ts : List Term) → answer atoms pid b.NotEqual ts ≡ answer atoms pid b.NotSame ts
+  pub equal : (atoms : List (List ℕ)) (pid : ℕ) (ts : List Term) → answer atoms pid b.Equal ts
+      ≡ answer atoms pid b.Same ts
+  pub not_equal : (atoms : List (List ℕ)) (pid : ℕ) (ts : List Term)
+      → answer atoms pid b.NotEqual ts ≡ answer atoms pid b.NotSame ts

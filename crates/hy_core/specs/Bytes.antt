@@ -1,12 +1,12 @@
 -- What a byte is, where a token may begin: a part of the Core Erlang 1.0.3 report's lexical rules.
 use Rattle.std.specs.Prelude.{◌≡◌, ℕ, Bool, true, false, ◌==◌, ◌||◌, ◌&&◌, nat_le, if◌then◌else◌, List, [], ◌∷◌, Option, Some, None}
-use Rattle.hy_core.specs.declared.token.Word.{Word}
-use Rattle.hy_core.specs.declared.token.Word.TheVariants as w
+use Rattle.hy_core.specs.declared.token.Symbol.{Symbol}
+use Rattle.hy_core.specs.declared.token.Symbol.TheVariants as w
 use Rattle.hy_core.specs.declared.token.ByteClass.{ByteClass}
 use Rattle.hy_core.specs.declared.token.ByteClass.TheVariants as c
 
 -- the mark that is this one byte: ( ) { } [ ] < > , : / = |
-unfoldable pub mark_of : ℕ → Option Word
+unfoldable pub mark_of : ℕ → Option Symbol
 mark_of b =
     if b == 40 then Some w.Open
     else if b == 41 then Some w.Close
@@ -40,8 +40,8 @@ plain_class b =
     else if b == 45 then c.Minus
     else c.Other
 
-abbrev pub class_by : Option Word → ℕ → ByteClass
-class_by (Some word) b = c.Mark word
+abbrev pub class_by : Option Symbol → ℕ → ByteClass
+class_by (Some symbol) b = c.Mark symbol
 class_by None b = plain_class b
 
 -- what a byte is

@@ -1,5 +1,6 @@
--- The canonical text of a module: its tokens in the order of the grammar, joined by single spaces, then a line feed.
--- Each token stands here with the space before it. The choice of the text is this project's own.
+-- The canonical text of a module: its tokens in the order of the grammar, joined by single spaces,
+-- then a line feed. Each token stands here with the space before it. The choice of the text is this
+-- project's own.
 use Rattle.std.specs.Prelude.{ℕ, pos, Bool, true, false, if◌then◌else◌, List, [], ◌∷◌, ◌++◌, codes, map}
 use Rattle.hy_terms.specs.Naming.{text_of}
 use Rattle.hy_terms.specs.Texts.{int_text, atom_text, quoted}
@@ -109,20 +110,30 @@ module _ (names : Module) where
   expr_step (e.Tuple site parts) = part (codes " {" ++ with_commas (texts_of parts) ++ codes " }")
   expr_step (e.List site heads tail) = part (list_text heads tail)
   expr_step (e.Values parts) = part (codes " <" ++ with_commas (texts_of parts) ++ codes " >")
-  expr_step (e.Let vars value body) = part (codes " let" ++ binding_text vars ++ codes " =" ++ value.text ++ codes " in" ++ body.text)
+  expr_step (e.Let vars value body) = part (codes " let" ++ binding_text vars ++ codes " ="
+      ++ value.text ++ codes " in" ++ body.text)
   expr_step (e.Do first second) = part (codes " do" ++ first.text ++ second.text)
-  expr_step (e.Case value clauses) = part (codes " case" ++ value.text ++ codes " of" ++ one_after_another clauses ++ codes " end")
-  expr_step (e.Letrec functions body) = part (codes " letrec" ++ one_after_another functions ++ codes " in" ++ body.text)
-  expr_step (e.Apply what args) = part (codes " apply" ++ what.text ++ codes " (" ++ with_commas (texts_of args) ++ codes " )")
-  expr_step (e.Call m f args) = part (codes " call" ++ m.text ++ codes " :" ++ f.text ++ codes " (" ++ with_commas (texts_of args) ++ codes " )")
-  expr_step (e.Primop name args) = part (codes " primop" ++ atom_token name ++ codes " (" ++ with_commas (texts_of args) ++ codes " )")
-  expr_step (e.Receive clauses timeout body) = part (codes " receive" ++ one_after_another clauses ++ codes " after" ++ timeout.text ++ codes " ->" ++ body.text)
-  expr_step (e.Try value vars body catch_vars catch_body) = part (codes " try" ++ value.text ++ codes " of" ++ arm_text vars body.text ++ codes " catch" ++ arm_text catch_vars catch_body.text)
+  expr_step (e.Case value clauses) =
+      part (codes " case" ++ value.text ++ codes " of" ++ one_after_another clauses ++ codes " end")
+  expr_step (e.Letrec functions body) =
+      part (codes " letrec" ++ one_after_another functions ++ codes " in" ++ body.text)
+  expr_step (e.Apply what args) =
+      part (codes " apply" ++ what.text ++ codes " (" ++ with_commas (texts_of args) ++ codes " )")
+  expr_step (e.Call m f args) = part (codes " call" ++ m.text ++ codes " :" ++ f.text ++ codes " ("
+      ++ with_commas (texts_of args) ++ codes " )")
+  expr_step (e.Primop name args) = part (codes " primop" ++ atom_token name ++ codes " ("
+      ++ with_commas (texts_of args) ++ codes " )")
+  expr_step (e.Receive clauses timeout body) = part (codes " receive" ++ one_after_another clauses
+      ++ codes " after" ++ timeout.text ++ codes " ->" ++ body.text)
+  expr_step (e.Try value vars body catch_vars catch_body) =
+      part (codes " try" ++ value.text ++ codes " of" ++ arm_text vars body.text ++ codes " catch"
+      ++ arm_text catch_vars catch_body.text)
   expr_step (e.Catch value) = part (codes " catch" ++ value.text)
   expr_step (e.Fun params body) = part (fun_text params body.text)
 
   abbrev pub clause_step : Clause-F Part (List ℕ) (List ℕ) → List ℕ
-  clause_step c = codes " <" ++ with_commas (texts_of (map pattern_part c.patterns)) ++ codes " > when" ++ c.guard.text ++ codes " ->" ++ c.body.text
+  clause_step c = codes " <" ++ with_commas (texts_of (map pattern_part c.patterns))
+      ++ codes " > when" ++ c.guard.text ++ codes " ->" ++ c.body.text
 
   abbrev pub function_step : Function-F Part (List ℕ) (List ℕ) → List ℕ
   function_step f = name_text f.name ++ codes " =" ++ fun_text f.params f.body.text
@@ -142,5 +153,6 @@ module _ (names : Module) where
 -- the text of a module, which begins with no space
 abbrev pub canonical_text : Module → List ℕ
 canonical_text m =
-    codes "module" ++ atom_token m m.name ++ codes " [" ++ with_commas (map (name_text m) m.exports) ++ codes " ] attributes [ ]"
+    codes "module" ++ atom_token m m.name ++ codes " [" ++ with_commas (map (name_text m) m.exports)
+    ++ codes " ] attributes [ ]"
     ++ one_after_another (map (function_text m) m.functions) ++ codes " end\n"

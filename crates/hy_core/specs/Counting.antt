@@ -1,9 +1,11 @@
--- How the parts of a program get their numbers one after another: nodes, functions of letrecs and sites. This project's own.
-use Rattle.std.specs.Prelude.{ℕ, suc, ◌+◌, List, [], ◌∷◌, ◌++◌, map, length}
+-- How the parts of a program get their numbers one after another: nodes, functions of letrecs and
+-- sites. This project's own.
+use Rattle.std.specs.Prelude.{ℕ, suc, ◌+◌, List, ◌++◌, map, length}
 use Rattle.hy_core.specs.declared.info.SiteInfo.{SiteInfo}
 use Rattle.hy_core.specs.declared.info.SiteKind.{SiteKind}
 
--- what has been numbered so far: the next node of the function of a module, the number of the next function of a letrec, and the sites
+-- what has been numbered so far: the next node of the function of a module, the number of the next
+-- function of a letrec, and the sites
 pub record Counts : Type 0 where
   pub node : ℕ
   pub local : ℕ
@@ -26,7 +28,8 @@ at_node kinds more function counts =
     more (length counts.sites) function (record {
       node = suc counts.node;
       local = counts.local;
-      sites = counts.sites ++ map (λ k. record { function = function; node = counts.node; kind = k }) kinds;
+      sites = counts.sites
+          ++ map (λ k. record { function = function; node = counts.node; kind = k }) kinds;
     })
 
 -- behind so many nodes
@@ -36,7 +39,3 @@ behind n more function counts = more function (record counts { node = counts.nod
 -- in the next function of a letrec
 abbrev pub in_definition : {A : Type 0} → Numbering A → Numbering A
 in_definition more function counts = more counts.local (record counts { local = suc counts.local })
-
-abbrev pub all_made : {A : Type 0} → List (Numbering A) → Numbering (List A)
-all_made [] = made []
-all_made (part ∷ parts) = next part λ x. next (all_made parts) λ xs. made (x ∷ xs)

@@ -1,6 +1,6 @@
--- What an expression means, by the Core Erlang 1.0.3 report: from left to right, as events, inputs and
--- how far it comes. The order from left to right, the reason 'no_clause', the reading of match_fail and
--- that a guard which raises does not hold are this project's own.
+-- What an expression means, by the Core Erlang 1.0.3 report: from left to right, as events, inputs
+-- and how far it comes. The order from left to right, the reason 'no_clause', the reading of
+-- match_fail and that a guard which raises does not hold are this project's own.
 use Rattle.std.specs.Prelude.{ℕ, ◌==◌, List, [], ◌∷◌, slice_get, pos, Option, Some, None, Bool, true, false, if◌then◌else◌}
 use Rattle.hy_terms.specs.Term as term
 use Rattle.hy_terms.specs.Term.{Term, Terms, MoreTerms, terms_of}
@@ -105,7 +105,8 @@ call_if (Some f) ts = call f ts
 
 -- the reason of match_fail
 abbrev pub fail_reason : Term → Term
-fail_reason (term.Tuple (MoreTerms (term.Atom a) ts)) = if a == 6 then function_clause else term.Tuple (MoreTerms (term.Atom a) ts)
+fail_reason (term.Tuple (MoreTerms (term.Atom a) ts)) =
+    if a == 6 then function_clause else term.Tuple (MoreTerms (term.Atom a) ts)
 fail_reason t = t
 
 -- a send is an event and gives its message; its target has to be a pid
@@ -177,31 +178,37 @@ module _ (atoms : List (List ℕ)) (pid : ℕ) where
     denote (r.Text site s) env = give (text_term s)
     denote (r.Variable x) env = value_of (lookup x env)
     denote (r.Tuple site es) env = bind (denote_all es env) (λ ts. give (term.Tuple (terms_of ts)))
-    denote (r.ListOf site es e) env = bind (denote_all es env) (λ ts. bind (denote e env) (single (λ t. give (conses ts t))))
+    denote (r.ListOf site es e) env =
+        bind (denote_all es env) (λ ts. bind (denote e env) (single (λ t. give (conses ts t))))
     denote (r.Values es) env = denote_all es env
-    denote (r.Let xs e b) env = bind (denote e env) (λ ts. in_env (denote b) (bind_variables xs ts env))
+    denote (r.Let xs e b) env =
+        bind (denote e env) (λ ts. in_env (denote b) (bind_variables xs ts env))
     denote (r.Do e b) env = bind (denote e env) (single (λ t. denote b env))
     denote (r.Case e cs) env = bind (denote e env) (λ ts. or_no_clause (choose cs ts env))
     denote (r.Letrec fs e) env = denote e (Locals fs env)
     denote (r.Call head es) env = bind (denote_all es env) (act_on head env)
     denote (r.Receive cs timeout e) env =
-        Receive (record { env = env; clauses = cs; timeout = timeout }) (λ t. or_fault (choose cs (t ∷ []) env)) (lapse timeout (denote e env))
+        Receive (record { env = env; clauses = cs; timeout = timeout })
+        (λ t. or_fault (choose cs (t ∷ []) env)) (lapse timeout (denote e env))
     denote r.Refused env = Fault
 
     -- one value each, from left to right
     pub denote_all : Expressions → Env → Doing
     denote_all NoExpressions env = Give []
-    denote_all (MoreExpressions e es) env = bind (denote e env) (single (λ t. bind (denote_all es env) (λ ts. Give (t ∷ ts))))
+    denote_all (MoreExpressions e es) env =
+        bind (denote e env) (single (λ t. bind (denote_all es env) (λ ts. Give (t ∷ ts))))
 
     -- the first clause whose patterns match and whose guard holds: what its body does
     pub choose : Clauses → List Term → Env → Option Doing
     choose NoClauses ts env = None
-    choose (MoreClauses ps g b cs) ts env = first_of_two (match_all ps ts env) (λ env'. holds (denote g env')) (λ env'. denote b env') (choose cs ts env)
+    choose (MoreClauses ps g b cs) ts env = first_of_two (match_all ps ts env)
+        (λ env'. holds (denote g env')) (λ env'. denote b env') (choose cs ts env)
 
 -- the function of a letrec
 abbrev pub function_named : FunName → Functions → Option FunctionTree
 function_named f NoFunctions = None
-function_named f (MoreFunctions g xs e fs) = if is_name g f then Some (record { parameters = xs; body = e }) else function_named f fs
+function_named f (MoreFunctions g xs e fs) =
+    if is_name g f then Some (record { parameters = xs; body = e }) else function_named f fs
 
 -- events, calls left, inputs left, and how far it came
 abbrev pub Evaluated : Type 0

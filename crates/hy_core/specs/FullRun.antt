@@ -26,7 +26,8 @@ use Rattle.hy_core.specs.Tables.{program_atoms, program_functions}
 abbrev pub main_number : (atoms : List (List ℕ)) → List FunInfo → (module_name : ℕ) → Option ℕ
 main_number atoms [] m = None
 main_number atoms (i ∷ is) m =
-    if (i.module == m) && (bytes_eq (text_of atoms i.name.name) (codes "main") && (i.name.arity == 0)) then Some 0
+    if (i.module == m) && (bytes_eq (text_of atoms i.name.name) (codes "main")
+    && (i.name.arity == 0)) then Some 0
     else one_on (main_number atoms is m)
 
 -- no process is stopped
@@ -37,19 +38,25 @@ NeverStopped p cause = ⊥
 module _ (program : List FunctionTree) (atoms : List (List ℕ)) (limit : ℕ) where
   -- what a process does: its function's body under its arguments; the start call costs no call
   abbrev pub runs_of : (pid function : ℕ) → List Term → List (Input Term) → Evaluated
-  runs_of pid function arguments inputs = evaluated program atoms pid limit (body_of program atoms pid (Top function) arguments) inputs
+  runs_of pid function arguments inputs =
+      evaluated program atoms pid limit (body_of program atoms pid (Top function) arguments) inputs
 
   -- how the processes of the program behave
   abbrev pub behaviour_of : Behaviour Term Wait
-  behaviour_of =
-      record { runs = runs_of; accepts = accepts atoms; timeout = λ wait. wait.timeout; text_of = term_text atoms }
+  behaviour_of = record {
+    runs = runs_of;
+    accepts = accepts atoms;
+    timeout = λ wait. wait.timeout;
+    text_of = term_text atoms;
+  }
 
   -- the configuration after a run of the program
   abbrev pub after_run : (main : ℕ) → List Step → Option (Configuration Term)
   after_run main steps = after_steps behaviour_of steps (Some (start main))
 
   -- a full run of the program with these ends, and its output
-  pub record IsFullRun (stopped : Process Term → Cause → Type 0) (main : ℕ) (steps : List Step) (ends : List End) (output : List ℕ) : Type 0 where
+  pub record IsFullRun (stopped : Process Term → Cause → Type 0) (main : ℕ) (steps : List Step)
+      (ends : List End) (output : List ℕ) : Type 0 where
     pub full : IsFull behaviour_of stopped main steps ends
     pub writes : run_output full.last ends ≡ output
 
@@ -72,12 +79,14 @@ sites_of program = numbers_from 0 (program_sites program)
 
 -- its functions by their numbers
 abbrev pub trees_of : Program → List FunctionTree
-trees_of program = function_trees (names_of program) (sites_of program) (modules_of (numbered_program program))
+trees_of program =
+    function_trees (names_of program) (sites_of program) (modules_of (numbered_program program))
 
--- A full run of the program from the first module's 'main'/0, with these ends and this output: its atoms,
--- functions and sites are its own.
+-- A full run of the program from the first module's 'main'/0, with these ends and this output: its
+-- atoms, functions and sites are its own.
 pub record IsRun (program : Program) (limit : ℕ) (stopped : Process Term → Cause → Type 0)
     (steps : List Step) (ends : List End) (output : List ℕ) : Type 0 where
   pub main : ℕ
   pub is_main : main_of (names_of program) (modules_of (numbered_program program)) ≡ Some main
-  pub run : IsFullRun (trees_of program) (program_atoms program) limit stopped main steps ends output
+  pub run : IsFullRun (trees_of program) (program_atoms program) limit stopped main
+      steps ends output

@@ -18,6 +18,7 @@ pub mod Faults
 pub mod FullRun
 pub mod Grammar
 pub mod Instance
+pub mod KnownTrees
 pub mod Machine
 pub mod Marks
 pub mod Match
@@ -42,6 +43,7 @@ pub mod ResolvedExample
 pub mod RunLaws
 pub mod SameBehaviour
 pub mod SameProgram
+pub mod Scopes
 pub mod Simulation
 pub mod SimulationLaws
 pub mod Sites

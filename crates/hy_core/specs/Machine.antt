@@ -1,5 +1,5 @@
--- The copying machine: processes that share nothing and send copies, over any meaning of what a single
--- process does. This project's own, after the asynchronous messages of Erlang.
+-- The copying machine: processes that share nothing and send copies, over any meaning of what a
+-- single process does. This project's own, after the asynchronous messages of Erlang.
 use Rattle.std.specs.Prelude.{◌≡◌, ℕ, suc, ◌==◌, ◌++◌, List, [], ◌∷◌, length, Option, Some, None, Bool, if◌then◌else◌, slice_get}
 use Rattle.hy_core.specs.declared.class.Class.{Class}
 use Rattle.hy_core.specs.declared.end.Cause.{Cause}
@@ -37,7 +37,14 @@ pub record Configuration (V : Type 0) : Type 0 where
 
 -- a process before it did anything
 abbrev pub fresh : {V : Type 0} → ℕ → ℕ → List V → Process V
-fresh pid function arguments = record { pid = pid; function = function; arguments = arguments; inputs = []; done = 0; mailbox = [] }
+fresh pid function arguments = record {
+  pid = pid;
+  function = function;
+  arguments = arguments;
+  inputs = [];
+  done = 0;
+  mailbox = [];
+}
 
 -- one process, with pid 0
 abbrev pub start : {V : Type 0} → (main : ℕ) → Configuration V
@@ -48,7 +55,8 @@ abbrev pub process_of : {V : Type 0} → ℕ → List (Process V) → Option (Pr
 process_of pid [] = None
 process_of pid (p ∷ ps) = if p.pid == pid then Some p else process_of pid ps
 
-abbrev pub with_process : {V : Type 0} → ℕ → (Process V → Process V) → List (Process V) → List (Process V)
+abbrev pub with_process : {V : Type 0} → ℕ → (Process V → Process V) → List (Process V)
+    → List (Process V)
 with_process pid f [] = []
 with_process pid f (p ∷ ps) = (if p.pid == pid then f p else p) ∷ with_process pid f ps
 
@@ -68,7 +76,8 @@ without place [] = []
 without place (m ∷ ms) = if m.place == place then ms else m ∷ without place ms
 
 abbrev pub with_taken : {V : Type 0} → Message V → Process V → Process V
-with_taken m p = record p { mailbox = without m.place p.mailbox; inputs = p.inputs ++ Got m.term ∷ [] }
+with_taken m p =
+    record p { mailbox = without m.place p.mailbox; inputs = p.inputs ++ Got m.term ∷ [] }
 
 -- the first message, in the order of the mailbox, that is accepted
 abbrev pub first_accepted : {V : Type 0} → (V → Bool) → List (Message V) → Option (Message V)
@@ -94,34 +103,54 @@ module _ {V W : Type 0} (behaviour : Behaviour V W) where
 
   -- the event of process pid at the next place
   abbrev pub carried_out : (pid : ℕ) → Event V → Configuration V → Configuration V
-  carried_out pid (Sent to t) c = record c { processes = with_process to (with_message c.events t) c.processes; events = suc c.events }
+  carried_out pid (Sent to t) c =
+      record c {
+        processes = with_process to (with_message c.events t) c.processes;
+        events = suc c.events;
+      }
   carried_out pid (Spawned f ts) c =
-      record c { processes = with_process pid (with_input (Born (suc c.events))) c.processes ++ fresh (suc c.events) f ts ∷ []; events = suc c.events }
-  carried_out pid (Printed t) c = record c { output = c.output ++ (behaviour.text_of t ++ 10 ∷ []); events = suc c.events }
+      record c {
+        processes = with_process pid (with_input (Born (suc c.events))) c.processes
+            ++ fresh (suc c.events) f ts ∷ [];
+        events = suc c.events;
+      }
+  carried_out pid (Printed t) c =
+      record c { output = c.output ++ (behaviour.text_of t ++ 10 ∷ []); events = suc c.events }
 
   -- an event stands at the place that is the number of events before it
-  abbrev pub event_step : ℕ → Process V → Option (Event V) → Configuration V → Option (Configuration V)
+  abbrev pub event_step : ℕ → Process V → Option (Event V) → Configuration V
+      → Option (Configuration V)
   event_step place p None c = None
   event_step place p (Some e) c =
-      if_at place c.events (carried_out p.pid e (record c { processes = with_process p.pid with_event_done c.processes }))
+      if_at place c.events
+      (carried_out p.pid e
+      (record c { processes = with_process p.pid with_event_done c.processes }))
 
   -- a take is of the first message that is accepted
-  abbrev pub take_of : ℕ → Process V → Option (Message V) → Configuration V → Option (Configuration V)
+  abbrev pub take_of : ℕ → Process V → Option (Message V) → Configuration V
+      → Option (Configuration V)
   take_of place p None c = None
-  take_of place p (Some m) c = if_at m.place place (record c { processes = with_process p.pid (with_taken m) c.processes })
+  take_of place p (Some m) c =
+      if_at m.place place (record c { processes = with_process p.pid (with_taken m) c.processes })
 
   -- a lapse is at timeout 0, where no message is accepted, and tells the number of events
-  abbrev pub lapse_of : ℕ → Process V → Timeout → Option (Message V) → Configuration V → Option (Configuration V)
-  lapse_of seen p AtOnce None c = if_at seen c.events (record c { processes = with_process p.pid (with_input Lapsed) c.processes })
+  abbrev pub lapse_of : ℕ → Process V → Timeout → Option (Message V) → Configuration V
+      → Option (Configuration V)
+  lapse_of seen p AtOnce None c = if_at seen c.events
+      (record c { processes = with_process p.pid (with_input Lapsed) c.processes })
   lapse_of seen p AtOnce (Some m) c = None
   lapse_of seen p Never m c = None
 
-  abbrev pub take_step : ℕ → Process V → Outcome V Class W → Configuration V → Option (Configuration V)
-  take_step place p (Needs w) c = take_of place p (first_accepted (behaviour.accepts p.pid w) p.mailbox) c
+  abbrev pub take_step : ℕ → Process V → Outcome V Class W → Configuration V
+      → Option (Configuration V)
+  take_step place p (Needs w) c =
+      take_of place p (first_accepted (behaviour.accepts p.pid w) p.mailbox) c
   take_step place p _ c = None
 
-  abbrev pub lapse_step : ℕ → Process V → Outcome V Class W → Configuration V → Option (Configuration V)
-  lapse_step seen p (Needs w) c = lapse_of seen p (behaviour.timeout w) (first_accepted (behaviour.accepts p.pid w) p.mailbox) c
+  abbrev pub lapse_step : ℕ → Process V → Outcome V Class W → Configuration V
+      → Option (Configuration V)
+  lapse_step seen p (Needs w) c =
+      lapse_of seen p (behaviour.timeout w) (first_accepted (behaviour.accepts p.pid w) p.mailbox) c
   lapse_step seen p _ c = None
 
   -- all events of the process are carried out
@@ -131,8 +160,10 @@ module _ {V W : Type 0} (behaviour : Behaviour V W) where
   -- a process takes or lapses only where all its events are carried out
   abbrev pub process_step : Item → Process V → Configuration V → Option (Configuration V)
   process_step (item.Event place) p c = event_step place p (slice_get (activity p).events p.done) c
-  process_step (item.Took place) p c = if is_done p then take_step place p (activity p).end c else None
-  process_step (item.Lapsed seen) p c = if is_done p then lapse_step seen p (activity p).end c else None
+  process_step (item.Took place) p c =
+      if is_done p then take_step place p (activity p).end c else None
+  process_step (item.Lapsed seen) p c =
+      if is_done p then lapse_step seen p (activity p).end c else None
 
   abbrev pub step_of : Item → Option (Process V) → Configuration V → Option (Configuration V)
   step_of i None c = None
@@ -190,7 +221,8 @@ module _ {V W : Type 0} (behaviour : Behaviour V W) where
   AreAt stopped (p ∷ ps) [] = ⊥
 
   -- a run that is full with these ends
-  pub record IsFull (stopped : Process V → Cause → Type 0) (main : ℕ) (steps : List Step) (ends : List End) : Type 0 where
+  pub record IsFull (stopped : Process V → Cause → Type 0) (main : ℕ) (steps : List Step)
+      (ends : List End) : Type 0 where
     pub last : Configuration V
     pub allowed : after_steps steps (Some (start main)) ≡ Some last
     pub at_ends : AreAt stopped last.processes ends

@@ -2,7 +2,7 @@
 use Rattle.std.specs.Prelude.{ℕ, ◌+◌, ◌-◌, ◌*◌, ◌≤◌, ℤ, pos, neg_ℤ, List, [], ◌∷◌, map}
 use Rattle.std.specs.List.{AllByRecursion}
 use Rattle.hy_terms.specs.Range.{IsNumber}
-use Rattle.hy_core.specs.declared.token.Word.{Word}
+use Rattle.hy_core.specs.declared.token.Symbol.{Symbol}
 use Rattle.hy_core.specs.declared.token.Sign.{Sign}
 use Rattle.hy_core.specs.declared.token.Sign.TheVariants as g
 use Rattle.hy_core.specs.declared.token.Token.{Token}
@@ -51,8 +51,8 @@ abbrev pub plain : Token → Marked
 plain k = record { level = 0; role = Free; token = k }
 
 -- a keyword or a mark that begins none
-abbrev pub word : Word → Marked
-word k = plain (t.Word k)
+abbrev pub symbol : Symbol → Marked
+symbol k = plain (t.Symbol k)
 
 -- an arity of these digits
 abbrev pub arity : List ℕ → Marked

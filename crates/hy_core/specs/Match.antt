@@ -63,12 +63,14 @@ abbrev mutual
   match_parts NoPatterns NoTerms env = Some env
   match_parts NoPatterns (MoreTerms t ts) env = None
   match_parts (MorePatterns p ps) NoTerms env = None
-  match_parts (MorePatterns p ps) (MoreTerms t ts) env = and_then (match p t env) (λ env'. match_parts ps ts env')
+  match_parts (MorePatterns p ps) (MoreTerms t ts) env =
+      and_then (match p t env) (λ env'. match_parts ps ts env')
 
   -- the heads match those of the term, and the rest goes on with the rest
   pub match_heads : Patterns → (Term → Env → Option Env) → Term → Env → Option Env
   match_heads NoPatterns rest t env = rest t env
-  match_heads (MorePatterns p ps) rest (Cons h t) env = and_then (match p h env) (λ env'. match_heads ps rest t env')
+  match_heads (MorePatterns p ps) rest (Cons h t) env =
+      and_then (match p h env) (λ env'. match_heads ps rest t env')
   match_heads (MorePatterns p ps) rest _ env = None
 
 -- one pattern for each value

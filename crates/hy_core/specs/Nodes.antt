@@ -1,5 +1,6 @@
--- The nodes of a function: its expressions and patterns in the order of the text, a node before its parts. A node's number is its place in this list.
--- The forms and what they bind are those of the Core Erlang 1.0.3 report; which parts are nodes is this project's own.
+-- The nodes of a function: its expressions and patterns in the order of the text, a node before its
+-- parts. A node's number is its place in this list. The forms and what they bind are those of the
+-- Core Erlang 1.0.3 report; which parts are nodes is this project's own.
 use Rattle.std.specs.Prelude.{ℕ, Bool, true, false, if◌then◌else◌, List, [], ◌∷◌, ◌++◌, map, length}
 use Rattle.hy_core.specs.declared.place.Place.{Place}
 use Rattle.hy_core.specs.declared.place.Place.TheVariants.{Anywhere, Applied, Timeout, WholeGuard}
@@ -64,7 +65,8 @@ defining names c = record c { locals = c.locals ++ names; place = Anywhere }
 
 -- the guard of a clause
 abbrev pub guarding : List ℕ → Context → Context
-guarding variables c = record c { scope = c.scope ++ variables; needs = 1; in_guard = true; place = WholeGuard }
+guarding variables c =
+    record c { scope = c.scope ++ variables; needs = 1; in_guard = true; place = WholeGuard }
 
 -- nodes from their context
 
@@ -117,7 +119,8 @@ patterns_of_first (clause ∷ clauses) = length clause.patterns
 -- the patterns of a clause
 abbrev pub pattern_nodes : List Pattern → Nodes
 pattern_nodes [] c = []
-pattern_nodes (p ∷ ps) c = node (FirstPattern (p ∷ ps)) c ∷ map (λ q. node (APattern q) c) (within p ++ patterns_in ps)
+pattern_nodes (p ∷ ps) c =
+    node (FirstPattern (p ∷ ps)) c ∷ map (λ q. node (APattern q) c) (within p ++ patterns_in ps)
 
 -- an expression, and then its parts
 abbrev pub at : Expr → Nodes → Nodes
@@ -130,30 +133,43 @@ expr_step layer.Nil = at e.Nil λ c. []
 expr_step (layer.Str text) = at (e.Str text) λ c. []
 expr_step (layer.Var x) = at (e.Var x) λ c. []
 expr_step (layer.Name f) = at (e.Name f) λ c. []
-expr_step (layer.Tuple site parts) = at (e.Tuple site (trees parts)) λ c. all_nodes parts (for_one c)
-expr_step (layer.List site heads tail) = at (e.List site (trees heads) tail.0) λ c. all_nodes heads (for_one c) ++ tail_nodes tail (for_one c)
+expr_step (layer.Tuple site parts) =
+    at (e.Tuple site (trees parts)) λ c. all_nodes parts (for_one c)
+expr_step (layer.List site heads tail) = at (e.List site (trees heads) tail.0) λ c. all_nodes heads
+    (for_one c) ++ tail_nodes tail (for_one c)
 expr_step (layer.Values parts) = at (e.Values (trees parts)) λ c. all_nodes parts (for_one c)
-expr_step (layer.Let vars value body) = at (e.Let vars value.0 body.0) λ c. value.1 (for_values (length vars) c) ++ body.1 (binding vars c)
-expr_step (layer.Do first second) = at (e.Do first.0 second.0) λ c. first.1 (for_one c) ++ second.1 (inside c)
+expr_step (layer.Let vars value body) = at (e.Let vars value.0 body.0) λ c. value.1
+    (for_values (length vars) c) ++ body.1 (binding vars c)
+expr_step (layer.Do first second) =
+    at (e.Do first.0 second.0) λ c. first.1 (for_one c) ++ second.1 (inside c)
 expr_step (layer.Case value clauses) =
-    at (e.Case value.0 (clauses_of clauses)) λ c. value.1 (for_values (patterns_of_first (clauses_of clauses)) c) ++ all_nodes clauses (inside c)
+    at (e.Case value.0 (clauses_of clauses)) λ c. value.1
+    (for_values (patterns_of_first (clauses_of clauses)) c) ++ all_nodes clauses (inside c)
 expr_step (layer.Letrec functions body) =
-    at (e.Letrec (definitions_of functions) body.0) λ c. let within = defining (names_of (definitions_of functions)) c in all_nodes functions within ++ body.1 within
-expr_step (layer.Apply what args) = at (e.Apply what.0 (trees args)) λ c. what.1 (at_place Applied c) ++ all_nodes args (for_one c)
-expr_step (layer.Call m f args) = at (e.Call m.0 f.0 (trees args)) λ c. m.1 (for_one c) ++ f.1 (for_one c) ++ all_nodes args (for_one c)
+    at (e.Letrec (definitions_of functions) body.0) λ c. let within =
+    defining (names_of (definitions_of functions)) c in all_nodes functions within
+    ++ body.1 within
+expr_step (layer.Apply what args) =
+    at (e.Apply what.0 (trees args)) λ c. what.1 (at_place Applied c) ++ all_nodes args (for_one c)
+expr_step (layer.Call m f args) = at (e.Call m.0 f.0 (trees args)) λ c. m.1 (for_one c)
+    ++ f.1 (for_one c) ++ all_nodes args (for_one c)
 expr_step (layer.Primop name args) = at (e.Primop name (trees args)) λ c. all_nodes args (for_one c)
 expr_step (layer.Receive clauses timeout body) =
-    at (e.Receive (clauses_of clauses) timeout.0 body.0) λ c. all_nodes clauses (inside c) ++ timeout.1 (at_place Timeout c) ++ body.1 (inside c)
+    at (e.Receive (clauses_of clauses) timeout.0 body.0) λ c. all_nodes clauses (inside c)
+    ++ timeout.1 (at_place Timeout c) ++ body.1 (inside c)
 expr_step (layer.Try value vars body catch_vars catch_body) =
-    at (e.Try value.0 vars body.0 catch_vars catch_body.0) λ c. value.1 (for_values (length vars) c) ++ body.1 (binding vars c) ++ catch_body.1 (binding catch_vars c)
+    at (e.Try value.0 vars body.0 catch_vars catch_body.0) λ c. value.1 (for_values (length vars) c)
+    ++ body.1 (binding vars c) ++ catch_body.1 (binding catch_vars c)
 expr_step (layer.Catch body) = at (e.Catch body.0) λ c. body.1 (for_one c)
-expr_step (layer.Fun params body) = at (e.Fun params body.0) λ c. body.1 (for_one (binding params c))
+expr_step (layer.Fun params body) =
+    at (e.Fun params body.0) λ c. body.1 (for_one (binding params c))
 
 -- the patterns, the guard and the body
 abbrev pub clause_step : Clause-F ExprPart ClausePart FunctionPart → Nodes
 clause_step clause c =
     let variables = clause_variables clause.patterns in
-    pattern_nodes clause.patterns c ++ clause.guard.1 (guarding variables c) ++ clause.body.1 (binding variables c)
+    pattern_nodes clause.patterns c ++ clause.guard.1 (guarding variables c)
+    ++ clause.body.1 (binding variables c)
 
 -- a definition of a letrec gives the nodes of its body
 abbrev pub function_step : Function-F ExprPart ClausePart FunctionPart → Nodes
@@ -172,4 +188,11 @@ definition_nodes = para-Function Nodes Nodes Nodes expr_step clause_step functio
 
 -- the nodes of a function of a module
 abbrev pub nodes_of : Function → List Node
-nodes_of f = nodes f.body (record { scope = f.params; locals = []; needs = 1; in_guard = false; place = Anywhere })
+nodes_of f =
+    nodes f.body (record {
+      scope = f.params;
+      locals = [];
+      needs = 1;
+      in_guard = false;
+      place = Anywhere;
+    })

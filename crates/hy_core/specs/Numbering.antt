@@ -1,4 +1,5 @@
--- The numbers of atoms and variables, in the order in which a text has them first. This project's own.
+-- The numbers of atoms and variables, in the order in which a text has them first. This project's
+-- own.
 use Rattle.std.specs.Prelude.{ℕ, List, []}
 use Rattle.hy_terms.specs.Naming.{named}
 use Rattle.hy_core.specs.declared.tables.Tables.{Tables}

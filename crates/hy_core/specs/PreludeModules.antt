@@ -1,4 +1,5 @@
--- The two modules that each program has beside those that are given; which functions they have is this project's own.
+-- The two modules that each program has beside those that are given; which functions they have is
+-- this project's own.
 --
 --     module 'erlang' ['++'/2] attributes []
 --     '++'/2 = fun (X,Y) -> case X of
@@ -22,6 +23,7 @@ use Rattle.hy_core.specs.declared.tree.Pattern.TheVariants as p
 use Rattle.hy_core.specs.declared.tree.Expr.{Expr}
 use Rattle.hy_core.specs.declared.tree.Expr.TheVariants as e
 use Rattle.hy_core.specs.declared.tree.Module.{Module}
+use Rattle.hy_core.specs.declared.tree.Program.{Program}
 
 -- the variables of both modules
 abbrev pub the_x : ℕ
@@ -45,13 +47,15 @@ variable_names = codes "X" ∷ codes "Y" ∷ codes "H" ∷ codes "T" ∷ codes "
 abbrev pub named_with : ℕ → ℕ → FunName
 named_with name arity = record { name = name; arity = arity }
 
--- case X of <[]> when 'true' -> Y <[H|T]> when 'true' -> .. <Z> when 'true' -> call 'erlang':'error'('badarg') end
+-- case X of <[]> when 'true' -> Y <[H|T]> when 'true' -> .. <Z> when 'true' -> call
+-- 'erlang':'error'('badarg') end
 abbrev pub over_list : (true erlang error badarg : ℕ) → Expr → Expr
 over_list true erlang error badarg step =
     e.Case (e.Var the_x) (
     clause_of (p.Nil ∷ []) (e.Atom true) (e.Var the_y)
     ∷ clause_of (p.List (p.Var the_h ∷ []) (p.Var the_t) ∷ []) (e.Atom true) step
-    ∷ clause_of (p.Var the_z ∷ []) (e.Atom true) (e.Call (e.Atom erlang) (e.Atom error) (e.Atom badarg ∷ []))
+    ∷ clause_of (p.Var the_z ∷ []) (e.Atom true)
+    (e.Call (e.Atom erlang) (e.Atom error) (e.Atom badarg ∷ []))
     ∷ []
     )
 
@@ -65,7 +69,9 @@ the_module_erlang =
     record {
       name = 0;
       exports = append ∷ [];
-      functions = function append (the_x ∷ the_y ∷ []) (over_list 2 0 3 4 (head_before (e.Apply (e.Name append) (e.Var the_t ∷ e.Var the_y ∷ [])))) ∷ [];
+      functions = function append (the_x ∷ the_y ∷ [])
+          (over_list 2 0 3 4
+          (head_before (e.Apply (e.Name append) (e.Var the_t ∷ e.Var the_y ∷ [])))) ∷ [];
       atoms = codes "erlang" ∷ codes "++" ∷ codes "true" ∷ codes "error" ∷ codes "badarg" ∷ [];
       variables = variable_names;
     }
@@ -79,13 +85,22 @@ the_module_lists =
       name = 0;
       exports = reverse_one ∷ reverse_two ∷ append ∷ [];
       functions =
-          function reverse_one (the_x ∷ []) (e.Apply (e.Name reverse_two) (e.Var the_x ∷ e.Nil ∷ []))
-          ∷ function reverse_two (the_x ∷ the_y ∷ []) (over_list 3 4 5 6 (e.Apply (e.Name reverse_two) (e.Var the_t ∷ head_before (e.Var the_y) ∷ [])))
-          ∷ function append (the_x ∷ the_y ∷ []) (e.Call (e.Atom 4) (e.Atom 7) (e.Var the_x ∷ e.Var the_y ∷ []))
+          function reverse_one (the_x ∷ [])
+          (e.Apply (e.Name reverse_two) (e.Var the_x ∷ e.Nil ∷ []))
+          ∷ function reverse_two (the_x ∷ the_y ∷ [])
+          (over_list 3 4 5 6
+          (e.Apply (e.Name reverse_two) (e.Var the_t ∷ head_before (e.Var the_y) ∷ [])))
+          ∷ function append (the_x ∷ the_y ∷ [])
+          (e.Call (e.Atom 4) (e.Atom 7) (e.Var the_x ∷ e.Var the_y ∷ []))
           ∷ [];
-      atoms = codes "lists" ∷ codes "reverse" ∷ codes "append" ∷ codes "true" ∷ codes "erlang" ∷ codes "error" ∷ codes "badarg" ∷ codes "++" ∷ [];
+      atoms = codes "lists" ∷ codes "reverse" ∷ codes "append" ∷ codes "true" ∷ codes "erlang"
+          ∷ codes "error" ∷ codes "badarg" ∷ codes "++" ∷ [];
       variables = variable_names;
     }
 
 abbrev pub prelude_modules : List Module
 prelude_modules = the_module_erlang ∷ the_module_lists ∷ []
+
+-- the program of these modules, with those of the prelude beside them
+abbrev pub with_prelude : List Module → Program
+with_prelude modules = record { given = modules; prelude = prelude_modules }

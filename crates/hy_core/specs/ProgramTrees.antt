@@ -1,5 +1,5 @@
--- The functions of a program as evaluation reads them: resolved, with the numbers of their events and of
--- their sites. This project's own.
+-- The functions of a program as evaluation reads them: resolved, with the numbers of their events
+-- and of their sites. This project's own.
 use Rattle.std.specs.Prelude.{ℕ, suc, Bool, true, false, if◌then◌else◌, List, [], ◌∷◌, ◌++◌, map, Option, Some}
 use Rattle.hy_terms.specs.Naming.{text_of}
 use Rattle.hy_core.specs.BuiltIn.{Operation, Sends, Spawns, Displays, operation_named}
@@ -45,7 +45,8 @@ abbrev pub resolved : Names → (current : ℕ) → Function → Expression
 resolved names current f = resolve names current (syntax_of f.body) []
 
 -- the functions of a module, and the sites that they leave
-abbrev pub functions_from : Names → (current : ℕ) → (sites : List ℕ) → List Function → List FunctionTree × List ℕ
+abbrev pub functions_from : Names → (current : ℕ) → (sites : List ℕ) → List Function
+    → List FunctionTree × List ℕ
 functions_from names current sites [] = ([], sites)
 functions_from names current sites (f ∷ fs) =
     let body = resolved names current f in

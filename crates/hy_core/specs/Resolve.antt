@@ -1,6 +1,6 @@
--- From the trees of a program to expressions in which each call says what it calls. What an applied name
--- and a call name is as in the Core Erlang 1.0.3 report; which built-ins there are and the guard form of
--- `try` are this project's own.
+-- From the trees of a program to expressions in which each call says what it calls. What an applied
+-- name and a call name is as in the Core Erlang 1.0.3 report; which built-ins there are and the
+-- guard form of `try` are this project's own.
 use Rattle.std.specs.Prelude.{ℕ, ◌==◌, ◌&&◌, ◌||◌, if◌then◌else◌, List, [], ◌∷◌, ◌++◌, length, codes, Option, Some, None, Bool, false, pos}
 use Rattle.std.specs.Ordering.{int_eq}
 use Rattle.std.specs.Str.{bytes_eq}
@@ -21,7 +21,8 @@ pub record Names : Type 0 where
 -- the number of the first function with this module and name
 abbrev pub function_number : List FunInfo → (module_name : ℕ) → FunName → Option ℕ
 function_number [] m f = None
-function_number (i ∷ is) m f = if (i.module == m) && is_name i.name f then Some 0 else one_on (function_number is m f)
+function_number (i ∷ is) m f =
+    if (i.module == m) && is_name i.name f then Some 0 else one_on (function_number is m f)
 
 abbrev pub name_with : ℕ → ℕ → FunName
 name_with name arity = record { name = name; arity = arity }
@@ -78,7 +79,8 @@ module _ (names : Names) (current : ℕ) where
 
   -- an applied name: the innermost letrec around that defines it, else the module
   abbrev pub applied_head : FunName → List FunName → Option Head
-  applied_head f locals = if is_local f locals then Some (r.Local f) else function_head (function_number names.functions current f)
+  applied_head f locals = if is_local f locals then Some (r.Local f)
+      else function_head (function_number names.functions current f)
 
   -- the built-in that a call names, where it is one
   abbrev pub erlang_operation : (m f arity : ℕ) → Option Operation
@@ -88,7 +90,8 @@ module _ (names : Names) (current : ℕ) where
   function_called m f arity = function_number names.functions m (name_with f arity)
 
   -- a call of a built-in, or else of a function
-  abbrev pub named_call : (m f arity : ℕ) → Option Operation → Expressions → (spawned : Expression) → Expression
+  abbrev pub named_call : (m f arity : ℕ) → Option Operation → Expressions
+      → (spawned : Expression) → Expression
   named_call m f arity None es spawned = call_of (function_head (function_called m f arity)) es
   named_call m f arity (Some operation) es spawned = operation_call operation es spawned
 
@@ -112,18 +115,22 @@ module _ (names : Names) (current : ℕ) where
     resolve (s.Str text) locals = r.Text 0 text
     resolve (s.Var x) locals = r.Variable x
     resolve (s.Tuple site parts) locals = r.Tuple 0 (resolve_all parts locals)
-    resolve (s.ListOf site heads tail) locals = r.ListOf 0 (resolve_all heads locals) (resolve tail locals)
+    resolve (s.ListOf site heads tail) locals =
+        r.ListOf 0 (resolve_all heads locals) (resolve tail locals)
     resolve (s.Values parts) locals = r.Values (resolve_all parts locals)
     resolve (s.Let vars value body) locals = r.Let vars (resolve value locals) (resolve body locals)
     resolve (s.Do first second) locals = r.Do (resolve first locals) (resolve second locals)
-    resolve (s.Case value clauses) locals = r.Case (resolve value locals) (resolve_clauses clauses locals)
+    resolve (s.Case value clauses) locals =
+        r.Case (resolve value locals) (resolve_clauses clauses locals)
     resolve (s.Letrec definitions body) locals =
         let inside = defined_names definitions ++ locals in
         r.Letrec (resolve_definitions definitions inside) (resolve body inside)
-    resolve (s.Apply (s.Name f) args) locals = call_of (applied_head f locals) (resolve_all args locals)
+    resolve (s.Apply (s.Name f) args) locals =
+        call_of (applied_head f locals) (resolve_all args locals)
     resolve (s.Call (s.Atom m) (s.Atom f) args) locals =
         let arity = count args in
-        named_call m f arity (erlang_operation m f arity) (resolve_all args locals) (resolve_spawn args locals)
+        named_call m f arity (erlang_operation m f arity) (resolve_all args locals)
+        (resolve_spawn args locals)
     resolve (s.Primop name args) locals =
         if is_match_fail (text_of names.atoms name) (count args)
         then r.Call r.MatchFail (resolve_all args locals)
@@ -134,9 +141,11 @@ module _ (names : Names) (current : ℕ) where
 
     pub resolve_all : Syntaxes → (locals : List FunName) → Expressions
     resolve_all NoSyntax locals = NoExpressions
-    resolve_all (MoreSyntax x xs) locals = MoreExpressions (resolve x locals) (resolve_all xs locals)
+    resolve_all (MoreSyntax x xs) locals =
+        MoreExpressions (resolve x locals) (resolve_all xs locals)
 
-    -- a spawn, whose module and function are atoms, and whose arguments are nil or one list notation
+    -- a spawn, whose module and function are atoms, and whose arguments are nil or one list
+    -- notation
     pub resolve_spawn : Syntaxes → (locals : List FunName) → Expression
     resolve_spawn (MoreSyntax (s.Atom m) (MoreSyntax (s.Atom f) (MoreSyntax s.Nil NoSyntax))) locals =
         call_of (spawn_head (function_called m f 0)) NoExpressions
@@ -144,7 +153,8 @@ module _ (names : Names) (current : ℕ) where
         call_of (spawn_head (function_called m f (count heads))) (resolve_all heads locals)
     resolve_spawn _ locals = r.Refused
 
-    -- the guard of a clause: the guard form of `try` is read as its first part, else it is the expression
+    -- the guard of a clause: the guard form of `try` is read as its first part, else it is the
+    -- expression
     pub resolve_guard : Syntax → Expression → (locals : List FunName) → Expression
     resolve_guard (s.Try value vars (s.Var x) catch_vars (s.Atom a)) otherwise locals =
         if is_guard_form vars x catch_vars a then resolve value locals else otherwise
@@ -153,7 +163,8 @@ module _ (names : Names) (current : ℕ) where
     pub resolve_clauses : s.Clauses → (locals : List FunName) → r.Clauses
     resolve_clauses s.NoClauses locals = r.NoClauses
     resolve_clauses (s.MoreClauses patterns guard body clauses) locals =
-        r.MoreClauses patterns (resolve_guard guard (resolve guard locals) locals) (resolve body locals)
+        r.MoreClauses patterns (resolve_guard guard (resolve guard locals) locals)
+        (resolve body locals)
         (resolve_clauses clauses locals)
 
     pub resolve_definitions : s.Definitions → (locals : List FunName) → r.Functions

@@ -1,5 +1,6 @@
--- Expressions in which each call says what it calls: what evaluation reads. They come from the trees
--- of the sources and from lifted trees alike. The forms are those of the Core Erlang 1.0.3 report.
+-- Expressions in which each call says what it calls: what evaluation reads. They come from the
+-- trees of the sources and from lifted trees alike. The forms are those of the Core Erlang 1.0.3
+-- report.
 use Rattle.std.specs.Prelude.{ℕ, ◌==◌, ◌&&◌, List, ℤ, Bool}
 use Rattle.hy_core.specs.declared.bif.Bif.{Bif}
 use Rattle.hy_core.specs.declared.class.Class.{Class}

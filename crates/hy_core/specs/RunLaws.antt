@@ -33,8 +33,10 @@ module _ (program : List FunctionTree) (atoms : List (List ℕ)) (calls main : �
 -- the steps of a run of a program determine the ends and what is written
 abbrev pub ProgramsEndOnce : Type 0
 ProgramsEndOnce =
-    (program : Program) (limit : ℕ) (steps : List Step) (ends others : List End) (output other : List ℕ) →
-    IsRun program limit NeverStopped steps ends output → IsRun program limit NeverStopped steps others other →
+    (program : Program) (limit : ℕ) (steps : List Step) (ends others : List End)
+    (output other : List ℕ) →
+    IsRun program limit NeverStopped steps ends output → IsRun program limit NeverStopped
+    steps others other →
     (ends ≡ others) × (output ≡ other)
 
 -- what is no run

@@ -29,7 +29,8 @@ unsited_step (layer.Apply what args) = e.Apply what args
 unsited_step (layer.Call m f args) = e.Call m f args
 unsited_step (layer.Primop name args) = e.Primop name args
 unsited_step (layer.Receive clauses timeout body) = e.Receive clauses timeout body
-unsited_step (layer.Try value vars body catch_vars catch_body) = e.Try value vars body catch_vars catch_body
+unsited_step (layer.Try value vars body catch_vars catch_body) =
+    e.Try value vars body catch_vars catch_body
 unsited_step (layer.Catch body) = e.Catch body
 unsited_step (layer.Fun params body) = e.Fun params body
 
@@ -44,8 +45,16 @@ abbrev pub unsited_expr : Expr → Expr
 unsited_expr = fold-Expr Expr Clause Function unsited_step unsited_clause_step unsited_function_step
 
 abbrev pub unsited_function : Function → Function
-unsited_function = fold-Function Expr Clause Function unsited_step unsited_clause_step unsited_function_step
+unsited_function =
+    fold-Function Expr Clause Function unsited_step unsited_clause_step unsited_function_step
 
 -- a module, with 0 for each site in it
 abbrev pub unsited : Module → Module
-unsited m = record { name = m.name; exports = m.exports; functions = map unsited_function m.functions; atoms = m.atoms; variables = m.variables }
+unsited m = record {
+  name = m.name;
+  exports = m.exports;
+  functions = map unsited_function
+      m.functions;
+  atoms = m.atoms;
+  variables = m.variables;
+}

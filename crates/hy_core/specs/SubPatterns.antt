@@ -1,5 +1,6 @@
--- The patterns inside a pattern, and the variables that it binds, in the order of the text. Core Erlang 1.0.3 report; that nil at the end
--- of a list notation is no pattern of its own is this project's.
+-- The patterns inside a pattern, and the variables that it binds, in the order of the text. Core
+-- Erlang 1.0.3 report; that nil at the end of a list notation is no pattern of its own is this
+-- project's.
 use Rattle.std.specs.Prelude.{ℕ, Bool, true, false, if◌then◌else◌, List, [], ◌∷◌, ◌++◌, map}
 use Rattle.hy_core.specs.declared.tree.Pattern.{Pattern}
 use Rattle.hy_core.specs.declared.tree.Pattern.TheFolds.{fold-Pattern, para-Pattern}

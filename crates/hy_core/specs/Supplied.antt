@@ -1,6 +1,6 @@
--- Resolved trees with their numbers: those of the nodes of events and those of sites are supplied in the
--- order of the text, in which what has numbers of its own comes before its parts. Numbers are this
--- project's own, and no meaning depends on them.
+-- Resolved trees with their numbers: those of the nodes of events and those of sites are supplied
+-- in the order of the text, in which what has numbers of its own comes before its parts. Numbers
+-- are this project's own, and no meaning depends on them.
 use Rattle.std.specs.Prelude.{ℕ, suc, List, [], ◌∷◌, drop}
 use Rattle.hy_core.specs.Resolved.{Head, Setelement, Send, Spawn, Display, Expression, Int, Atom, Nil, Text, Variable, Tuple, ListOf, Values, Let, Do, Case, Letrec, Call, Receive, Refused, Expressions, NoExpressions, MoreExpressions, Clauses, NoClauses, MoreClauses, Functions, NoFunctions, MoreFunctions}
 
@@ -88,12 +88,14 @@ abbrev mutual
   supplied (Case e cs) s = Case (supplied e s) (clauses_supplied cs (behind e s))
   supplied (Letrec fs e) s = Letrec (functions_supplied fs s) (supplied e (behind_functions fs s))
   supplied (Call head es) s = Call (supplied_head head s) (all_supplied es (behind_head head s))
-  supplied (Receive cs timeout e) s = Receive (clauses_supplied cs s) timeout (supplied e (behind_clauses cs s))
+  supplied (Receive cs timeout e) s =
+      Receive (clauses_supplied cs s) timeout (supplied e (behind_clauses cs s))
   supplied Refused s = Refused
 
   pub all_supplied : Expressions → Supply → Expressions
   all_supplied NoExpressions s = NoExpressions
-  all_supplied (MoreExpressions e es) s = MoreExpressions (supplied e s) (all_supplied es (behind e s))
+  all_supplied (MoreExpressions e es) s =
+      MoreExpressions (supplied e s) (all_supplied es (behind e s))
 
   pub clauses_supplied : Clauses → Supply → Clauses
   clauses_supplied NoClauses s = NoClauses

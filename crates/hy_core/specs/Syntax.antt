@@ -1,5 +1,5 @@
--- The trees of the sources, as definitions compute with them: one form for each form of the declared
--- trees, which are sealed outside their crate, so that nothing over them computes there.
+-- The trees of the sources, as definitions compute with them: one form for each form of the
+-- declared trees, which are sealed outside their crate, so that nothing over them computes there.
 use Rattle.std.specs.Prelude.{ℕ, suc, ℤ, List, [], ◌∷◌, map}
 use Rattle.hy_core.specs.declared.tree.Clause.{Clause}
 use Rattle.hy_core.specs.declared.tree.Expr.{Expr}
@@ -114,12 +114,14 @@ syntax_step (layer.Apply what args) = Apply what (syntaxes_of args)
 syntax_step (layer.Call m f args) = Call m f (syntaxes_of args)
 syntax_step (layer.Primop name args) = Primop name (syntaxes_of args)
 syntax_step (layer.Receive clauses timeout body) = Receive (clauses_of clauses) timeout body
-syntax_step (layer.Try value vars body catch_vars catch_body) = Try value vars body catch_vars catch_body
+syntax_step (layer.Try value vars body catch_vars catch_body) =
+    Try value vars body catch_vars catch_body
 syntax_step (layer.Catch body) = Catch body
 syntax_step (layer.Fun params body) = Fun params body
 
 abbrev pub clause_step : Clause-F Syntax ClauseSyntax DefinitionSyntax → ClauseSyntax
-clause_step c = record { patterns = patterns_of (map pattern_of c.patterns); guard = c.guard; body = c.body }
+clause_step c =
+    record { patterns = patterns_of (map pattern_of c.patterns); guard = c.guard; body = c.body }
 
 abbrev pub definition_step : Function-F Syntax ClauseSyntax DefinitionSyntax → DefinitionSyntax
 definition_step f = record { name = f.name; parameters = f.params; body = f.body }
@@ -193,7 +195,13 @@ pub record ModuleSyntax : Type 0 where
   pub functions : Definitions
 
 abbrev pub module_tree : ModuleSyntax → Module
-module_tree m = record { name = m.name; exports = []; functions = definition_trees m.functions; atoms = []; variables = [] }
+module_tree m = record {
+  name = m.name;
+  exports = [];
+  functions = definition_trees m.functions;
+  atoms = [];
+  variables = [];
+}
 
 abbrev pub module_trees : List ModuleSyntax → List Module
 module_trees [] = []

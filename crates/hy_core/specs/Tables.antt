@@ -1,4 +1,5 @@
--- The tables of a program: its atoms and its functions, each in the order of their numbers. This project's own.
+-- The tables of a program: its atoms and its functions, each in the order of their numbers. This
+-- project's own.
 use Rattle.std.specs.Prelude.{ℕ, List, [], ◌∷◌, ◌++◌, map, length, replicate, unwrap_or}
 use Rattle.hy_terms.specs.Naming.{named, place_in, text_of}
 use Rattle.hy_core.specs.BuiltIn.{own_atoms}
@@ -61,8 +62,11 @@ top_infos table (m ∷ ms) = map (info_of table m) m.functions ++ top_infos tabl
 -- the functions of letrecs, each told by the function of a module around it
 abbrev pub local_infos : List (List ℕ) → List Module → List FunInfo
 local_infos table [] = []
-local_infos table (m ∷ ms) = joined (map (λ f. replicate (length (local_functions f)) (info_of table m f)) m.functions) ++ local_infos table ms
+local_infos table (m ∷ ms) =
+    joined (map (λ f. replicate (length (local_functions f)) (info_of table m f)) m.functions)
+    ++ local_infos table ms
 
 -- the functions of a program in order of their numbers: all of its modules, then those of letrecs
 abbrev pub program_functions : Program → List FunInfo
-program_functions program = let table = program_atoms program in top_infos table (modules_of program) ++ local_infos table (modules_of program)
+program_functions program = let table = program_atoms program in
+    top_infos table (modules_of program) ++ local_infos table (modules_of program)

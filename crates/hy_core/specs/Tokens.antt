@@ -1,11 +1,11 @@
--- Which tokens stand in a text: those of the Core Erlang 1.0.3 report, floats aside.
--- Which bytes a quoted token may hold, and the values of escapes up to 255, are this project's own choice.
+-- Which tokens stand in a text: those of the Core Erlang 1.0.3 report, floats aside. Which bytes a
+-- quoted token may hold, and the values of escapes up to 255, are this project's own choice.
 use Rattle.std.specs.Prelude.{◌≡◌, ℕ, ◌+◌, ◌-◌, ◌*◌, ◌≤◌, Bool, true, false, ◌==◌, if◌then◌else◌, List, [], ◌∷◌, ◌++◌, length, codes, Option, Some, None}
 use Rattle.std.specs.List.{AllByRecursion}
 use Rattle.std.specs.Str.{bytes_eq}
 use Rattle.hy_core.specs.Bytes.{class_of, is_printable, is_octal, is_digit, is_lower, is_variable_part, Pass, Stops}
-use Rattle.hy_core.specs.declared.token.Word.{Word}
-use Rattle.hy_core.specs.declared.token.Word.TheVariants as w
+use Rattle.hy_core.specs.declared.token.Symbol.{Symbol}
+use Rattle.hy_core.specs.declared.token.Symbol.TheVariants as w
 use Rattle.hy_core.specs.declared.token.ByteClass.{ByteClass}
 use Rattle.hy_core.specs.declared.token.ByteClass.TheVariants as c
 use Rattle.hy_core.specs.declared.token.Sign.{Sign}
@@ -17,7 +17,7 @@ use Rattle.hy_core.specs.declared.token.Ending.{Ending}
 use Rattle.hy_core.specs.declared.token.Ending.TheVariants as e
 
 -- the keyword that is these letters
-unfoldable pub keyword : List ℕ → Option Word
+unfoldable pub keyword : List ℕ → Option Symbol
 keyword letters =
     if bytes_eq letters (codes "after") then Some w.After
     else if bytes_eq letters (codes "apply") then Some w.Apply
@@ -46,7 +46,7 @@ sign_of c.Minus = Some g.Minus
 sign_of _ = None
 
 -- the mark of - and the byte behind it
-abbrev pub mark_behind_minus : ByteClass → Option Word
+abbrev pub mark_behind_minus : ByteClass → Option Symbol
 mark_behind_minus (c.Mark w.Greater) = Some w.Arrow
 mark_behind_minus (c.Mark w.Bar) = Some w.NoteBar
 mark_behind_minus _ = None
@@ -73,34 +73,53 @@ abbrev pub EndsOctal : List ℕ → Type 0
 EndsOctal [] = Unit {0}
 EndsOctal (b ∷ bs) = is_octal b ≡ false
 
--- These bytes behind a \, before those, stand for this byte. As many octal digits belong to it as stand there, up to three.
+-- These bytes behind a \, before those, stand for this byte. As many octal digits belong to it as
+-- stand there, up to three.
 pub data IsEscape : List ℕ → List ℕ → ℕ → Type 0 where
   letter : {b k : ℕ} {rest : List ℕ} → escaped b ≡ Some k → IsEscape (b ∷ []) rest k
   control : {b : ℕ} {rest : List ℕ} → 64 ≤ b → b ≤ 95 → IsEscape (94 ∷ b ∷ []) rest (b - 64)
-  one_digit : {b : ℕ} {rest : List ℕ} → is_octal b ≡ true → EndsOctal rest → IsEscape (b ∷ []) rest (b - 48)
-  two_digits : {b d : ℕ} {rest : List ℕ} → is_octal b ≡ true → is_octal d ≡ true → EndsOctal rest → IsEscape (b ∷ d ∷ []) rest (8 * (b - 48) + (d - 48))
-  three_digits : {b d h : ℕ} {rest : List ℕ} → is_octal b ≡ true → is_octal d ≡ true → is_octal h ≡ true → 8 * (8 * (b - 48) + (d - 48)) + (h - 48) ≤ 255
+  one_digit : {b : ℕ} {rest : List ℕ} → is_octal b ≡ true → EndsOctal rest
+      → IsEscape (b ∷ []) rest (b - 48)
+  two_digits : {b d : ℕ} {rest : List ℕ} → is_octal b ≡ true → is_octal d ≡ true → EndsOctal rest
+      → IsEscape (b ∷ d ∷ []) rest (8 * (b - 48) + (d - 48))
+  three_digits : {b d h : ℕ} {rest : List ℕ} → is_octal b ≡ true → is_octal d ≡ true
+      → is_octal h ≡ true → 8 * (8 * (b - 48) + (d - 48)) + (h - 48) ≤ 255
       → IsEscape (b ∷ d ∷ h ∷ []) rest (8 * (8 * (b - 48) + (d - 48)) + (h - 48))
 
--- the inside of an atom or a string, by the class of its quote, with the quote that ends it, and the text that it stands for
+-- the inside of an atom or a string, by the class of its quote, with the quote that ends it, and
+-- the text that it stands for
 pub data IsBody : ByteClass → List ℕ → List ℕ → Type 0 where
   close : {quote : ByteClass} {q : ℕ} → class_of q ≡ quote → IsBody quote (q ∷ []) []
-  plain : {quote : ByteClass} {b : ℕ} {bs x : List ℕ} → is_printable b ≡ true → (class_of b ≡ quote → ⊥) → (class_of b ≡ c.Backslash → ⊥) → IsBody quote bs x → IsBody quote (b ∷ bs) (b ∷ x)
-  escape : {quote : ByteClass} {b k : ℕ} {es bs x : List ℕ} → class_of b ≡ c.Backslash → IsEscape es bs k → IsBody quote bs x → IsBody quote (b ∷ (es ++ bs)) (k ∷ x)
+  plain : {quote : ByteClass} {b : ℕ} {bs x : List ℕ} → is_printable b ≡ true
+      → (class_of b ≡ quote → ⊥) → (class_of b ≡ c.Backslash → ⊥) → IsBody quote bs x
+      → IsBody quote (b ∷ bs) (b ∷ x)
+  escape : {quote : ByteClass} {b k : ℕ} {es bs x : List ℕ} → class_of b ≡ c.Backslash
+      → IsEscape es bs k → IsBody quote bs x → IsBody quote (b ∷ (es ++ bs)) (k ∷ x)
 
--- These bytes, before those, are a token. Where a run of bytes could go on, the token goes on: so the longest is taken.
+-- These bytes, before those, are a token. Where a run of bytes could go on, the token goes on: so
+-- the longest is taken.
 pub data IsToken : List ℕ → List ℕ → Token → Type 0 where
-  integer : {d : ℕ} {ds rest : List ℕ} → class_of d ≡ c.Digit → Pass is_digit ds → Stops is_digit rest → IsToken (d ∷ ds) rest (t.Integer g.Absent (d ∷ ds))
-  signed : {b d : ℕ} {ds rest : List ℕ} {sign : Sign} → sign_of (class_of b) ≡ Some sign → class_of d ≡ c.Digit → Pass is_digit ds → Stops is_digit rest
+  integer : {d : ℕ} {ds rest : List ℕ} → class_of d ≡ c.Digit → Pass is_digit ds
+      → Stops is_digit rest → IsToken (d ∷ ds) rest (t.Integer g.Absent (d ∷ ds))
+  signed : {b d : ℕ} {ds rest : List ℕ} {sign : Sign} → sign_of (class_of b) ≡ Some sign
+      → class_of d ≡ c.Digit → Pass is_digit ds → Stops is_digit rest
       → IsToken (b ∷ d ∷ ds) rest (t.Integer sign (d ∷ ds))
-  character : {q b : ℕ} {rest : List ℕ} → class_of q ≡ c.Dollar → is_printable b ≡ true → (class_of b ≡ c.Backslash → ⊥) → IsToken (q ∷ b ∷ []) rest (t.Character b)
-  escape : {q b k : ℕ} {es rest : List ℕ} → class_of q ≡ c.Dollar → class_of b ≡ c.Backslash → IsEscape es rest k → IsToken (q ∷ b ∷ es) rest (t.Character k)
-  atom : {q : ℕ} {bs x rest : List ℕ} → class_of q ≡ c.Quote → IsBody c.Quote bs x → IsToken (q ∷ bs) rest (t.Atom x)
-  string : {q : ℕ} {bs x rest : List ℕ} → class_of q ≡ c.DoubleQuote → IsBody c.DoubleQuote bs x → IsToken (q ∷ bs) rest (t.Str x)
-  variable : {u : ℕ} {us rest : List ℕ} → class_of u ≡ c.Capital → Pass is_variable_part us → Stops is_variable_part rest → IsToken (u ∷ us) rest (t.Variable (u ∷ us))
-  word : {l : ℕ} {ls rest : List ℕ} {k : Word} → class_of l ≡ c.Lower → Pass is_lower ls → Stops is_lower rest → keyword (l ∷ ls) ≡ Some k → IsToken (l ∷ ls) rest (t.Word k)
-  mark : {b : ℕ} {rest : List ℕ} {k : Word} → class_of b ≡ c.Mark k → IsToken (b ∷ []) rest (t.Word k)
-  mark_of_two : {b m : ℕ} {rest : List ℕ} {k : Word} → class_of b ≡ c.Minus → mark_behind_minus (class_of m) ≡ Some k → IsToken (b ∷ m ∷ []) rest (t.Word k)
+  character : {q b : ℕ} {rest : List ℕ} → class_of q ≡ c.Dollar → is_printable b ≡ true
+      → (class_of b ≡ c.Backslash → ⊥) → IsToken (q ∷ b ∷ []) rest (t.Character b)
+  escape : {q b k : ℕ} {es rest : List ℕ} → class_of q ≡ c.Dollar → class_of b ≡ c.Backslash
+      → IsEscape es rest k → IsToken (q ∷ b ∷ es) rest (t.Character k)
+  atom : {q : ℕ} {bs x rest : List ℕ} → class_of q ≡ c.Quote → IsBody c.Quote bs x
+      → IsToken (q ∷ bs) rest (t.Atom x)
+  string : {q : ℕ} {bs x rest : List ℕ} → class_of q ≡ c.DoubleQuote → IsBody c.DoubleQuote bs x
+      → IsToken (q ∷ bs) rest (t.Str x)
+  variable : {u : ℕ} {us rest : List ℕ} → class_of u ≡ c.Capital → Pass is_variable_part us
+      → Stops is_variable_part rest → IsToken (u ∷ us) rest (t.Variable (u ∷ us))
+  a_keyword : {l : ℕ} {ls rest : List ℕ} {k : Symbol} → class_of l ≡ c.Lower → Pass is_lower ls
+      → Stops is_lower rest → keyword (l ∷ ls) ≡ Some k → IsToken (l ∷ ls) rest (t.Symbol k)
+  mark : {b : ℕ} {rest : List ℕ} {k : Symbol} → class_of b ≡ c.Mark k
+      → IsToken (b ∷ []) rest (t.Symbol k)
+  mark_of_two : {b m : ℕ} {rest : List ℕ} {k : Symbol} → class_of b ≡ c.Minus
+      → mark_behind_minus (class_of m) ≡ Some k → IsToken (b ∷ m ∷ []) rest (t.Symbol k)
 
 -- an atom, a string or a character
 abbrev pub is_quoted : Token → Bool
@@ -111,7 +130,8 @@ is_quoted _ = false
 
 -- some more bytes make the bytes an atom, a string or a character
 abbrev pub IsOpen : List ℕ → Type 0
-IsOpen bs = (b : ℕ) × (more : List ℕ) × (k : Token) × (is_quoted k ≡ true) × IsToken (bs ++ b ∷ more) [] k
+IsOpen bs =
+    (b : ℕ) × (more : List ℕ) × (k : Token) × (is_quoted k ≡ true) × IsToken (bs ++ b ∷ more) [] k
 
 -- no token stands in front
 abbrev pub HasNoToken : List ℕ → Type 0
@@ -129,12 +149,18 @@ EndsLine (b ∷ bs) = b ≡ 10
 -- the tokens of the bytes, each with the number of bytes from it on, and what comes behind the last
 pub data Lexes : List ℕ → List Lexeme → Ending → Type 0 where
   done : Lexes [] [] e.Clean
-  space : {b : ℕ} {bs : List ℕ} {ls : List Lexeme} {end : Ending} → class_of b ≡ c.Space → Lexes bs ls end → Lexes (b ∷ bs) ls end
-  comment : {b : ℕ} {rest : List ℕ} {ls : List Lexeme} {end : Ending} → (inside : List ℕ) → class_of b ≡ c.Percent → IsRemark inside → EndsLine rest → Lexes rest ls end → Lexes (b ∷ (inside ++ rest)) ls end
-  token : {front rest : List ℕ} {k : Token} {ls : List Lexeme} {end : Ending} → IsToken front rest k → Lexes rest ls end
+  space : {b : ℕ} {bs : List ℕ} {ls : List Lexeme} {end : Ending} → class_of b ≡ c.Space
+      → Lexes bs ls end → Lexes (b ∷ bs) ls end
+  comment : {b : ℕ} {rest : List ℕ} {ls : List Lexeme} {end : Ending} → (inside : List ℕ)
+      → class_of b ≡ c.Percent → IsRemark inside → EndsLine rest → Lexes rest ls end
+      → Lexes (b ∷ (inside ++ rest)) ls end
+  token : {front rest : List ℕ} {k : Token} {ls : List Lexeme} {end : Ending} → IsToken front rest k
+      → Lexes rest ls end
       → Lexes (front ++ rest) (record { left = length (front ++ rest); token = k } ∷ ls) end
-  open_token : {b : ℕ} {bs : List ℕ} → HasNoToken (b ∷ bs) → IsOpen (b ∷ bs) → Lexes (b ∷ bs) [] e.Open
-  no_token : {b : ℕ} {bs : List ℕ} → HasNoToken (b ∷ bs) → (IsOpen (b ∷ bs) → ⊥) → (class_of b ≡ c.Space → ⊥) → (class_of b ≡ c.Percent → ⊥)
+  open_token : {b : ℕ} {bs : List ℕ} → HasNoToken (b ∷ bs) → IsOpen (b ∷ bs)
+      → Lexes (b ∷ bs) [] e.Open
+  no_token : {b : ℕ} {bs : List ℕ} → HasNoToken (b ∷ bs) → (IsOpen (b ∷ bs) → ⊥)
+      → (class_of b ≡ c.Space → ⊥) → (class_of b ≡ c.Percent → ⊥)
       → Lexes (b ∷ bs) [] (e.Bad (length (b ∷ bs)))
 
 -- each of these tokens begins inside a text of so many bytes

@@ -1,4 +1,4 @@
-/// A form outside the profile, or a size that is too great. `Absent` stands where the kind of a
+/// A form outside the subset, or a size that is too great. `Absent` stands where the kind of a
 /// fault tells all.
 #[derive(Clone, Copy, Debug, PartialEq, Eq)]
 pub enum Form {

@@ -27,5 +27,5 @@ pub use refusal::RefusalKind;
 pub use step::{Item, Step};
 pub use tables::Tables;
 pub use text::Text;
-pub use token::{ByteClass, Ending, Lexeme, Sign, Token, Word};
+pub use token::{ByteClass, Ending, Lexeme, Sign, Symbol, Token};
 pub use tree::{Clause, Expr, FunName, Function, Module, Pattern, Program};

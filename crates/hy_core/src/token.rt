@@ -2,7 +2,7 @@ use sqlite_items::Items;
 
 /// A keyword or a mark.
 #[derive(Clone, Copy, Debug, PartialEq, Eq)]
-pub enum Word {
+pub enum Symbol {
     After,
     Apply,
     Attributes,
@@ -80,7 +80,7 @@ pub enum ByteClass {
     /// `-`
     Minus,
     /// A mark of this one byte.
-    Mark(Word),
+    Mark(Symbol),
     Other,
 }
 
@@ -103,7 +103,7 @@ pub enum Token {
     /// What a string stands for, without quotes and escapes.
     Str(Items<u8>),
     Variable(Items<u8>),
-    Word(Word),
+    Symbol(Symbol),
 }
 
 /// A token, with the number of bytes that are left where it begins.

@@ -1,11 +1,11 @@
 -- A text among the keys of an index set, and in the table that they are.
-use Rattle.std.proofs.Common.{◌≡◌, ℕ, zero, suc, ◌+◌, ◌≤◌, ◌^◌, Bool, true, false, not, cond, List, [], ◌∷◌, length, map, slice_get, Some, None, nat_lt, position, refl, sym, ap, ◌∙◌, arith}
+use Rattle.std.proofs.Common.{◌≡◌, ℕ, zero, suc, ◌+◌, Bool, true, false, not, cond, List, [], ◌∷◌, length, map, slice_get, Some, None, nat_lt, position, refl, sym, ap, ◌∙◌, arith}
 use Rattle.std.proofs.lemmas.Bool.Decides.{nat_tests, same_from_decides}
 use Rattle.std.proofs.lemmas.Map.Keys.{IsDistinct-head, IsDistinct-tail}
 use Rattle.std.proofs.lemmas.Slice.Eq.{bytes_eq-Decides}
 use Rattle.std.specs.List.{position_or_len, list_any, AllByRecursion, IsDistinct}
 use Rattle.std.specs.Str.{bytes_eq}
-use Rattle.hy_terms.specs.Naming.{one_on, place_in, IsTable}
+use Rattle.hy_terms.specs.Naming.{one_on, place_in}
 use Rattle.hy_terms.proofs.NamingLemmas.{bytes_eq-same, one_on-None}
 
 position-cons : {X : Type 0} (p : X → Bool) (x : X) (xs : List X) → position p (x ∷ xs) ≡ cond (p x) (Some 0) (one_on (position p xs))
@@ -43,10 +43,6 @@ module _ {X : Type 0} (items : X → List ℕ) where
     list_any-absent [] h = refl
     list_any-absent (x ∷ xs) h = let a = absent_first x xs h in rw a.0 (list_any-absent xs a.1)
 
-    pub position_or_len-absent : (xs : List X) → place_in (map items xs) text ≡ None → position_or_len (λ x. bytes_eq text (items x)) xs ≡ length xs
-    position_or_len-absent [] h = refl
-    position_or_len-absent (x ∷ xs) h = let a = absent_first x xs h in rw a.0 (omega (arith, position_or_len-absent xs a.1))
-
   -- a key that differs from each of the others has another text than they
   differs : (x : X) (xs : List X) → AllByRecursion (λ y. bytes_eq (items x) (items y) ≡ false) xs → (k : ℕ) (text : List ℕ) → slice_get (map items xs) k ≡ Some text → bytes_eq (items x) text ≡ false
   differs x [] h k text at = absurd cc
@@ -54,14 +50,10 @@ module _ {X : Type 0} (items : X → List ℕ) where
   differs x (y ∷ ys) h (suc k) text at = differs x ys h.1 k text at
 
   -- the texts of distinct keys stand where they are found
-  place_in-distinct : (xs : List X) → IsDistinct (λ x y. bytes_eq (items x) (items y)) xs → (k : ℕ) (text : List ℕ) → slice_get (map items xs) k ≡ Some text → place_in (map items xs) text ≡ Some k
+  pub place_in-distinct : (xs : List X) → IsDistinct (λ x y. bytes_eq (items x) (items y)) xs → (k : ℕ) (text : List ℕ) → slice_get (map items xs) k ≡ Some text → place_in (map items xs) text ≡ Some k
   place_in-distinct [] h k text at = absurd cc
   place_in-distinct (x ∷ xs) h zero text at =
       let e : items x ≡ text = cc in
       rw (ap (bytes_eq (items x)) (sym e) ∙ bytes_eq-same (items x)) refl
   place_in-distinct (x ∷ xs) h (suc k) text at =
       rw (differs x xs (IsDistinct-head _ x xs h) k text at) (ap one_on (place_in-distinct xs (IsDistinct-tail _ x xs h) k text at))
-
-  -- the texts of distinct keys are a table
-  pub IsTable-map : (xs : List X) → IsDistinct (λ x y. bytes_eq (items x) (items y)) xs → length (map items xs) ≤ 2 ^ 20 → IsTable (map items xs)
-  IsTable-map xs h few = record { few = few; once = place_in-distinct xs h }

@@ -17,9 +17,11 @@ int n = Int (pos n)
 -- {[1,2|3],"ab",[],{},'it\'s',<0.0.0>}
 abbrev pub mixed_tuple : Term
 mixed_tuple =
-    Tuple (terms_of (Cons (int 1) (Cons (int 2) (int 3)) ∷ Cons (int 97) (Cons (int 98) Nil) ∷ Nil ∷ Tuple (terms_of []) ∷ Atom 1 ∷ Pid 0 ∷ []))
+    Tuple (terms_of (Cons (int 1) (Cons (int 2) (int 3)) ∷ Cons (int 97) (Cons (int 98) Nil) ∷ Nil
+    ∷ Tuple (terms_of []) ∷ Atom 1 ∷ Pid 0 ∷ []))
 
--- in ascending order: -2, -1, 1, 'a', 'b', 'b' again, <0.0.0>, <0.1.0>, {}, {2}, {1,1}, [], [1|'a'], [1], [2|'a']
+-- in ascending order: -2, -1, 1, 'a', 'b', 'b' again, <0.0.0>, <0.1.0>, {}, {2}, {1,1}, [],
+-- [1|'a'], [1], [2|'a']
 abbrev pub ascending_terms : List Term
 ascending_terms =
     Int (negsuc 1) ∷ Int (negsuc 0) ∷ int 1 ∷ Atom 2 ∷ Atom 0 ∷ Atom 3 ∷ Pid 0 ∷ Pid 1

@@ -1,6 +1,6 @@
--- A labelled term, as definitions compute with it: its cons and tuple nodes tell the site that built
--- them and where they stand; this project's own. The type that the sources declare is sealed outside
--- its crate, so that nothing over it computes there.
+-- A labelled term, as definitions compute with it: its cons and tuple nodes tell the site that
+-- built them and where they stand; this project's own. The type that the sources declare is sealed
+-- outside its crate, so that nothing over it computes there.
 use Rattle.std.specs.Prelude.{◌≡◌, ℕ, ◌+◌, suc, ℤ, List, [], ◌∷◌}
 use Rattle.hy_terms.specs.Term.{Term, Terms, NoTerms, MoreTerms}
 use Rattle.hy_terms.specs.Term as bare
@@ -78,14 +78,17 @@ if_private Private words = words
 if_private Shared words = 0
 
 abbrev mutual
-  -- the words of the private nodes, each occurrence counted: 3 for a cons, and n + 1 for a tuple of n
+  -- the words of the private nodes, each occurrence counted: 3 for a cons, and n + 1 for a tuple of
+  -- n
   pub private_words : Labelled → ℕ
   private_words (Int n) = 0
   private_words (Atom atom) = 0
   private_words (Pid pid) = 0
   private_words Nil = 0
-  private_words (Cons site colour head tail) = if_private colour 3 + private_words head + private_words tail
-  private_words (Tuple site colour parts) = if_private colour (part_count parts + 1) + private_words_of_each parts
+  private_words (Cons site colour head tail) =
+      if_private colour 3 + private_words head + private_words tail
+  private_words (Tuple site colour parts) =
+      if_private colour (part_count parts + 1) + private_words_of_each parts
 
   pub private_words_of_each : Labels → ℕ
   private_words_of_each NoLabels = 0
@@ -107,7 +110,8 @@ AreShared (MoreLabels t ts) = IsShared t × AreShared ts
 abbrev mutual
   -- no shared node of a labelled term has a private child
   pub IsLabelled : Labelled → Type 0
-  IsLabelled (Cons site colour head tail) = (colour ≡ Shared → IsShared head × IsShared tail) × IsLabelled head × IsLabelled tail
+  IsLabelled (Cons site colour head tail) =
+      (colour ≡ Shared → IsShared head × IsShared tail) × IsLabelled head × IsLabelled tail
   IsLabelled (Tuple site colour parts) = (colour ≡ Shared → AreShared parts) × AreLabelled parts
   IsLabelled _ = Unit {0}
 

@@ -23,7 +23,12 @@ named texts text = numbered texts text (place_in texts text)
 abbrev pub text_of : List (List ℕ) → ℕ → List ℕ
 text_of texts number = unwrap_or (slice_get texts number) []
 
+-- each text stands once: its place is that at which it stands
+abbrev pub StandOnce : List (List ℕ) → Type 0
+StandOnce texts =
+    (k : ℕ) (text : List ℕ) → slice_get texts k ≡ Some text → place_in texts text ≡ Some k
+
 -- a table of at most 2^20 texts, each once
 pub record IsTable (texts : List (List ℕ)) : Type 0 where
   pub few : length texts ≤ 2 ^ 20
-  pub once : (k : ℕ) (text : List ℕ) → slice_get texts k ≡ Some text → place_in texts text ≡ Some k
+  pub once : StandOnce texts

@@ -23,9 +23,11 @@ module _ (atoms : List (List ℕ)) where
     -- element by element, lists by head and then tail
     pub compare : Term → Term → Ordering
     compare (Int n) (Int m) = int_cmp n m
-    compare (Atom a) (Atom b) = ordering_then (slice_cmp nat_cmp (text_of atoms a) (text_of atoms b)) (nat_cmp a b)
+    compare (Atom a) (Atom b) =
+        ordering_then (slice_cmp nat_cmp (text_of atoms a) (text_of atoms b)) (nat_cmp a b)
     compare (Pid p) (Pid q) = nat_cmp p q
-    compare (Tuple ts) (Tuple us) = ordering_then (nat_cmp (size_of ts) (size_of us)) (compare_each ts us)
+    compare (Tuple ts) (Tuple us) =
+        ordering_then (nat_cmp (size_of ts) (size_of us)) (compare_each ts us)
     compare Nil Nil = Equal
     compare (Cons h t) (Cons k u) = ordering_then (compare h k) (compare t u)
     compare t u = nat_cmp (kind t) (kind u)
@@ -34,4 +36,5 @@ module _ (atoms : List (List ℕ)) where
     compare_each NoTerms NoTerms = Equal
     compare_each NoTerms (MoreTerms u us) = Less
     compare_each (MoreTerms t ts) NoTerms = Greater
-    compare_each (MoreTerms t ts) (MoreTerms u us) = ordering_then (compare t u) (compare_each ts us)
+    compare_each (MoreTerms t ts) (MoreTerms u us) =
+        ordering_then (compare t u) (compare_each ts us)

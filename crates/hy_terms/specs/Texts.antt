@@ -15,10 +15,12 @@ octal_digits byte = (48 + byte / 64) ∷ (48 + byte / 8 % 8) ∷ (48 + byte % 8)
 abbrev pub is_plain : ℕ → Bool
 is_plain byte = nat_le 32 byte && nat_le byte 126
 
--- a byte between quotes: the quote in use and `\` behind a `\`, the others from 32 to 126 as they are, the rest as `\` and three octal digits
+-- a byte between quotes: the quote in use and `\` behind a `\`, the others from 32 to 126 as they
+-- are, the rest as `\` and three octal digits
 abbrev pub escaped : ℕ → ℕ → List ℕ
 escaped quote byte =
-    if byte == quote || byte == 92 then 92 ∷ byte ∷ [] else (if is_plain byte then byte ∷ [] else 92 ∷ octal_digits byte)
+    if byte == quote || byte == 92 then 92 ∷ byte ∷ []
+    else (if is_plain byte then byte ∷ [] else 92 ∷ octal_digits byte)
 
 -- a text between two quotes
 abbrev pub quoted : ℕ → List ℕ → List ℕ

@@ -1,9 +1,10 @@
 ghost use Rattle.std.specs.Prelude.{◌≡◌, ◌+◌, ◌<◌, ◌^◌, ◌↔◌, [], ◌∷◌, ◌++◌, length, map, IfOk, OnOk, OnErr, IfSome, None, Some, Err, slice_get};
-ghost use Rattle.hy_terms.specs.Naming.{named, place_in, IsTable};
+ghost use Rattle.hy_terms.specs.Naming.{named, place_in, text_of, IsTable};
 ghost use Rattle.hy_terms.specs.declared.atoms.AtomFault.TheVariants.{TooManyAtoms};
 
-use indexmap::IndexSet;
-use std::alloc::{AllocError, AllocFailed, Global};
+use crate::memory::Memory;
+use crate::text_table::TextTable;
+use std::alloc::Global;
 use std::marker::Model;
 use thiserror::Error;
 
@@ -18,24 +19,13 @@ pub enum AtomFault {
     Memory,
 }
 
-impl From<AllocError> for AtomFault {
+impl From<Memory> for AtomFault {
     ghost use Rattle.std.specs.Prelude.{◌≡◌};
     ghost use Rattle.hy_terms.specs.declared.atoms.AtomFault.TheVariants.{Memory};
 
     ghost from_gives = { λ _ e. e ≡ Memory };
 
-    fn from(_error: AllocError) -> AtomFault {
-        AtomFault::Memory
-    }
-}
-
-impl<T: Drop> From<AllocFailed<T>> for AtomFault {
-    ghost use Rattle.std.specs.Prelude.{◌≡◌};
-    ghost use Rattle.hy_terms.specs.declared.atoms.AtomFault.TheVariants.{Memory};
-
-    ghost from_gives = { λ _ e. e ≡ Memory };
-
-    fn from(_error: AllocFailed<T>) -> AtomFault {
+    fn from(_error: Memory) -> AtomFault {
         AtomFault::Memory
     }
 }
@@ -47,38 +37,17 @@ const MOST_ATOMS: usize = 1 << 20;
 /// A contract sees it as the list of its texts.
 #[derive(Drop)]
 pub struct Atoms {
-    texts: IndexSet<Vec<u8>>,
+    texts: TextTable,
 }
 
 impl Model for Atoms {
-    ghost use Rattle.std.specs.Prelude.{List, ℕ, map, length, ◌≤◌, ◌^◌};
+    ghost use Rattle.std.specs.Prelude.{List, ℕ, length, ◌≤◌, ◌^◌};
 
     ghost Value = { List (List ℕ) };
 
-    ghost view = { λ a. map (λ text. text.items) a.texts.keys };
+    ghost view = { λ a. a.texts };
 
-    ghost invariant = { λ a. length a.texts.keys ≤ 2 ^ 20 };
-}
-
-// The place of a text among the keys.
-fn place_of(texts: &IndexSet<Vec<u8>>, text: &[u8]) -> Option<usize>
-    ensures place { result ≡ place_in (map (λ key. key.items) texts.now.keys) text.now }
-    ensures within { IfSome result (λ place. place < length texts.now.keys) }
-{
-    texts.get_index_of(text)
-}
-
-// Puts a text that is not among the keys behind them.
-fn add(texts: &mut IndexSet<Vec<u8>>, text: &[u8]) -> Result<usize, AllocError>
-    requires { place_in (map (λ key. key.items) texts.old.keys) text.now ≡ None }
-    ensures place { IfOk result (λ place. place ≡ length texts.old.keys) }
-    ensures ok { OnOk result (map (λ key. key.items) texts.new.keys ≡ map (λ key. key.items) texts.old.keys ++ text.now ∷ []) }
-    ensures len { OnOk result (length texts.new.keys ≡ length texts.old.keys + 1) }
-    ensures err { OnErr result (texts.new.keys ≡ texts.old.keys) }
-{
-    let copy = Vec::from_slice(*texts.allocator(), text)?;
-    let (place, _) = texts.insert_full(copy)?;
-    Ok(place)
+    ghost invariant = { λ a. length a.texts ≤ 2 ^ 20 };
 }
 
 impl Atoms {
@@ -87,24 +56,37 @@ impl Atoms {
         ensures { result ≡ [] }
     {
         Atoms {
-            texts: IndexSet::new(alloc),
+            texts: TextTable::new(alloc),
         }
     }
 
-    /// The number of a text. A new text goes last. Only a new text can fail, and leaves the table as it was.
+    /// The number of a text, where it has one.
+    pub fn place(&self, text: &[u8]) -> Option<u32>
+        ensures place { result ≡ place_in self.now text.now }
+        ensures within { IfSome result (λ atom. atom < length self.now) }
+    {
+        if let Some(place) = self.texts.place(text) {
+            return Some(place as u32);
+        }
+        None
+    }
+
+    /// The number of a text. A new text goes last. Only a new text can fail, and leaves the table
+    /// as it was.
     pub fn intern(&mut self, text: &[u8]) -> Result<u32, AtomFault>
         ensures ok { IfOk result (λ atom. named self.old text.now ≡ (atom, self.new)) }
-        ensures full { (result ≡ Err TooManyAtoms) ↔ ((place_in self.old text.now ≡ None) × (length self.old ≡ 2 ^ 20)) }
+        ensures full { (result ≡ Err TooManyAtoms) ↔ ((place_in self.old text.now ≡ None)
+            × (length self.old ≡ 2 ^ 20)) }
         ensures absent { OnErr result (place_in self.old text.now ≡ None) }
         ensures err { OnErr result (self.new ≡ self.old) }
     {
-        if let Some(place) = place_of(&self.texts, text) {
-            return Ok(place as u32);
+        if let Some(atom) = self.place(text) {
+            return Ok(atom);
         }
         if self.texts.len() == MOST_ATOMS {
             return Err(AtomFault::TooManyAtoms);
         }
-        Ok(add(&mut self.texts, text)? as u32)
+        Ok(self.texts.name(text)? as u32)
     }
 
     /// The text of a number.
@@ -112,7 +94,18 @@ impl Atoms {
         requires { atom < length self.now }
         ensures { slice_get self.now atom ≡ Some result.now }
     {
-        self.texts[atom as usize].as_slice()
+        self.texts.text(atom as usize)
+    }
+
+    /// The text of a number; one that isn't below the length has the empty text.
+    pub fn text_of(&self, atom: u32) -> &[u8]
+        ensures { result.now ≡ text_of self.now atom }
+    {
+        if atom < self.len() {
+            self.text(atom)
+        } else {
+            b""
+        }
     }
 
     /// How many texts there are.
@@ -138,6 +131,10 @@ mod tests {
         assert_eq!(rt; atoms.len(), 2);
         assert_eq!(rt; atoms.text(0), b"true".as_slice());
         assert_eq!(rt; atoms.text(1), b"".as_slice());
+        assert_eq!(rt; atoms.place(b"true"), Some(0));
+        assert_eq!(rt; atoms.place(b"new"), None);
+        assert_eq!(rt; atoms.text_of(0), b"true".as_slice());
+        assert_eq!(rt; atoms.text_of(2), b"".as_slice());
         Ok(())
     }
 

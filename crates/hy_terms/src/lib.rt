@@ -7,6 +7,7 @@ mod memory;
 mod range;
 mod term;
 mod text;
+mod text_table;
 mod words;
 
 pub use atoms::{AtomFault, Atoms};
@@ -14,4 +15,5 @@ pub use memory::Memory;
 pub use range::{GREATEST_NUMBER, LEAST_NUMBER};
 pub use term::{Colour, Labelled, LabelledTerms, Term, Terms};
 pub use text::{push_atom, push_int, push_pid, push_quoted};
+pub use text_table::TextTable;
 pub use words::Words;

@@ -34,7 +34,8 @@ pub fn push_atom(out: &mut Vec<u8>, text: &[u8]) -> Result<(), Memory>
 
 /// Appends a text between two quotes.
 ///
-/// The quote and `\` stand behind a `\`, other bytes from 32 to 126 as they are, and all the rest as `\` and three octal digits.
+/// The quote and `\` stand behind a `\`, other bytes from 32 to 126 as they are, and all the rest
+/// as `\` and three octal digits.
 pub fn push_quoted(out: &mut Vec<u8>, quote: u8, text: &[u8]) -> Result<(), Memory>
     ensures ok { OnOk result (out.new.items ≡ out.old.items ++ quoted quote text.now) }
     ensures err { OnErr result (out.new.items ≡ out.old.items) }

@@ -1,6 +1,5 @@
--- Words and the headers of cells. A word is its payload times 16 and a tag; 0 is a word that was not
--- written.
--- The tags, the payloads and the layout of headers are the project's own.
+-- Words and the headers of cells. A word is its payload times 16 and a tag; 0 is a word that was
+-- not written. The tags, the payloads and the layout of headers are the project's own.
 use Rattle.std.specs.Prelude.{◌≡◌, ◌⊎◌, ℕ, ℤ, pos, negsuc, ◌+◌, ◌-◌, ◌*◌, ◌/◌, ◌%◌, ◌^◌, ◌<◌, ◌≤◌, if◌then◌else◌, ◌==◌, nat_lt}
 use Rattle.hy_words.specs.declared.kind.Entry.{Entry}
 use Rattle.hy_words.specs.declared.kind.Entry.TheVariants.{Send, Spawn, Print}

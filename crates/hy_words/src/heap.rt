@@ -7,7 +7,8 @@ use thiserror::Error;
 /// Why room in a heap was not reserved.
 #[derive(Debug, Drop, Error)]
 pub enum HeapFault {
-    /// The heap has `used` words, `asked` more were asked for, and it may have no more than `limit`.
+    /// The heap has `used` words, `asked` more were asked for, and it may have no more than
+    /// `limit`.
     #[error("HeapFull")]
     HeapFull { used: u64, asked: u64, limit: u64 },
     #[error("Memory")]

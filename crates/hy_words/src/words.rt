@@ -8,10 +8,10 @@ ghost use Rattle.hy_terms.specs.Labelled as l;
 use crate::kind::Entry;
 use crate::tags;
 
-/// A header has the site at this place of its payload.
+// A header has the site at this place of its payload.
 const SITE: u64 = 1 << 30;
 
-/// Numbers are kept modulo this.
+// Numbers are kept modulo this.
 const NUMBERS: i64 = 1 << 60;
 
 // The word with this tag and payload.

@@ -21,4 +21,5 @@ calls_of s = s.calls
 
 -- the next write of this piece is listed, or the piece doesn't fit
 abbrev pub FailsAt : MemorySink → List ℕ → Type 0
-FailsAt s piece = Contains (fails_of s) (next_call (calls_of s)) ⊎ (room_of s < length (bytes_of s) + length piece)
+FailsAt s piece = Contains (fails_of s) (next_call (calls_of s))
+    ⊎ (room_of s < length (bytes_of s) + length piece)

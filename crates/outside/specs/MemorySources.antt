@@ -35,7 +35,8 @@ count_of s name = times name s.failed.items
 
 -- the next read of this name is listed, or the name isn't there
 abbrev pub FailsAt : MemorySources → List ℕ → Type 0
-FailsAt s name = (is_sure s ≡ false) × (Contains (fails_of s) (next_call (calls_of s)) ⊎ (given s name ≡ None))
+FailsAt s name =
+    (is_sure s ≡ false) × (Contains (fails_of s) (next_call (calls_of s)) ⊎ (given s name ≡ None))
 
 -- nothing but the texts may differ
 pub record SameCalls (before now : MemorySources) : Type 0 where
@@ -49,4 +50,5 @@ SameTexts before now = (name : List ℕ) → text_of now name ≡ text_of before
 
 -- the name has this text now, and each other name has the text that it had
 abbrev pub Gives : MemorySources → MemorySources → List ℕ → List ℕ → Type 0
-Gives before now name text = (text_of now name ≡ Some text) × ((other : List ℕ) → other ≢ name → text_of now other ≡ text_of before other)
+Gives before now name text = (text_of now name ≡ Some text)
+    × ((other : List ℕ) → other ≢ name → text_of now other ≡ text_of before other)

@@ -29,7 +29,8 @@ Appends before now bytes = IfSome before (λ old. now ≡ Some (old ++ bytes))
 
 -- the first of these bytes, all or fewer, stand at the end
 abbrev pub AppendsPrefix : Option (List ℕ) → Option (List ℕ) → List ℕ → Type 0
-AppendsPrefix before now bytes = IfSome before (λ old. (part rest : List ℕ) × (part ++ rest ≡ bytes) × (now ≡ Some (old ++ part)))
+AppendsPrefix before now bytes = IfSome before (λ old. (part rest : List ℕ) × (part ++ rest ≡ bytes)
+    × (now ≡ Some (old ++ part)))
 
 -- how often a name is among these
 abbrev pub times : List ℕ → List (String Global) → ℕ

@@ -55,7 +55,7 @@ fn read_file<R: Files>(rt: &R, alloc: Global, path: &str) -> Result<Vec<u8>, Sou
     }
 }
 
-/// Reads to the end, or to the limit.
+// Reads to the end, or to the limit.
 fn read_bytes<F: Read>(alloc: Global, file: &mut F) -> Result<Vec<u8>, SourceFault>
     ensures { IfOk result (λ text. length text.items ≤ read_limit) }
 {

@@ -21,7 +21,8 @@ pub struct MemorySink {
 impl MemorySink {
     ghost use Rattle.outside.specs.MemorySink.{bytes_of, count_of, room_of, fails_of, calls_of, FailsAt};
 
-    /// Takes room for so many bytes. It fails at the listed calls and where a piece doesn't fit, and nowhere else.
+    /// Takes room for so many bytes. It fails at the listed calls and where a piece doesn't fit,
+    /// and nowhere else.
     pub fn new(alloc: Global, room: u64, fails: Vec<u64>) -> Result<MemorySink, Memory>
         ensures empty { IfOk result (λ s. bytes_of s ≡ []) }
         ensures count { IfOk result (λ s. count_of s ≡ 0) }
@@ -63,8 +64,10 @@ impl Sink for MemorySink {
     ghost faults = { count_of };
 
     fn write(&mut self, piece: &[u8]) -> Result<(), Failed>
-        ensures ok { OnOk result (Appends (Some (bytes_of self.old)) (Some (bytes_of self.new)) piece.now) }
-        ensures prefix { OnErr result (AppendsPrefix (Some (bytes_of self.old)) (Some (bytes_of self.new)) piece.now) }
+        ensures ok { OnOk result (Appends (Some (bytes_of self.old))
+            (Some (bytes_of self.new)) piece.now) }
+        ensures prefix { OnErr result
+            (AppendsPrefix (Some (bytes_of self.old)) (Some (bytes_of self.new)) piece.now) }
         ensures failed { OnErr result (Rises (count_of self.old) (count_of self.new)) }
         ensures counts { count_of self.old ≤ count_of self.new }
 

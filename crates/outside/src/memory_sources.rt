@@ -23,7 +23,8 @@ pub struct MemorySources {
 impl MemorySources {
     ghost use Rattle.outside.specs.MemorySources.{text_of, count_of, is_sure, fails_of, calls_of, SameTexts, SameCalls, Gives};
 
-    /// It has no name yet. It fails at the listed calls and for a name that it doesn't have, and nowhere else.
+    /// It has no name yet. It fails at the listed calls and for a name that it doesn't have, and
+    /// nowhere else.
     pub fn new(alloc: Global, fails: Vec<u64>) -> MemorySources
         ensures told { (name : List ℕ) → text_of result name ≡ None }
         ensures counts { (name : List ℕ) → count_of result name ≡ 0 }
@@ -91,16 +92,19 @@ impl Sources for MemorySources {
     ghost faults = { count_of };
 
     fn read(&mut self, alloc: Global, name: &str) -> Result<Vec<u8>, SourceFault>
-        ensures text { IfOk result (λ text. IfSome (text_of self.old name.now) (λ whole. text.items ≡ first_bytes whole)) }
+        ensures text { IfOk result (λ text. IfSome (text_of self.old name.now)
+            (λ whole. text.items ≡ first_bytes whole)) }
         ensures within { IfOk result (λ text. length text.items ≤ read_limit) }
-        ensures failed { IsErrOf result SourceFault.Failed → Rises (count_of self.old name.now) (count_of self.new name.now) }
+        ensures failed { IsErrOf result SourceFault.Failed → Rises (count_of self.old name.now)
+            (count_of self.new name.now) }
         ensures counts { (other : List ℕ) → count_of self.old other ≤ count_of self.new other }
         ensures same { (other : List ℕ) → text_of self.new other ≡ text_of self.old other }
 
         // It fails just there, and then the count always rises.
         ensures fails { FailsAt self.old name.now → IsErr result }
         ensures only { IsErrOf result SourceFault.Failed → FailsAt self.old name.now }
-        ensures rises { IsErrOf result SourceFault.Failed → count_of self.old name.now < count_of self.new name.now }
+        ensures rises { IsErrOf result SourceFault.Failed → count_of self.old name.now < count_of
+            self.new name.now }
 
         ensures sure { is_sure self.new ≡ is_sure self.old }
         ensures listed { fails_of self.new ≡ fails_of self.old }
@@ -121,18 +125,20 @@ impl Sources for MemorySources {
     }
 }
 
-/// Notes that the name failed.
+// Notes that the name failed.
 #[tactic(auto, using(crate::proofs::Counts::times_push))]
 fn note(alloc: Global, failed: &mut Vec<String>, name: &str) -> Result<(), Memory>
-    ensures counts { (other : List ℕ) → times other failed.old.items ≤ times other failed.new.items }
-    ensures rises { OnOk result (times name.now failed.old.items < times name.now failed.new.items) }
+    ensures counts { (other : List ℕ) → times other failed.old.items ≤ times other
+        failed.new.items }
+    ensures rises { OnOk result (times name.now failed.old.items < times name.now
+        failed.new.items) }
 {
     let note = String::from_str(alloc, name)?;
     failed.push(note)?;
     Ok(())
 }
 
-/// The text, or its first bytes up to the limit.
+// The text, or its first bytes up to the limit.
 #[tactic(auto, using(std::proofs::lemmas::List::take_min))]
 fn first_of(alloc: Global, text: &[u8]) -> Result<Vec<u8>, SourceFault>
     ensures text { IfOk result (λ copy. copy.items ≡ first_bytes text.now) }

@@ -16,7 +16,8 @@ pub trait Sink {
     /// Writes a piece at the end. A write that failed has written a first part of the piece.
     fn write(&mut self, piece: &[u8]) -> Result<(), Failed>
         ensures ok { OnOk result (Appends (written self.old) (written self.new) piece.now) }
-        ensures prefix { OnErr result (AppendsPrefix (written self.old) (written self.new) piece.now) }
+        ensures prefix { OnErr result
+            (AppendsPrefix (written self.old) (written self.new) piece.now) }
         ensures failed { OnErr result (Rises (faults self.old) (faults self.new)) }
         ensures counts { faults self.old ≤ faults self.new };
 }

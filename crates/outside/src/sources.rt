@@ -28,9 +28,11 @@ pub trait Sources {
     /// Reads the text of a name, or its first 2^20 + 1 bytes where it is longer.
     /// Whatever the answer, the texts are as they were.
     fn read(&mut self, alloc: Global, name: &str) -> Result<Vec<u8>, SourceFault>
-        ensures text { IfOk result (λ text. IfSome (told self.old name.now) (λ whole. text.items ≡ first_bytes whole)) }
+        ensures text { IfOk result (λ text. IfSome (told self.old name.now)
+            (λ whole. text.items ≡ first_bytes whole)) }
         ensures within { IfOk result (λ text. length text.items ≤ read_limit) }
-        ensures failed { IsErrOf result SourceFault.Failed → Rises (faults self.old name.now) (faults self.new name.now) }
+        ensures failed { IsErrOf result SourceFault.Failed → Rises (faults self.old name.now)
+            (faults self.new name.now) }
         ensures counts { (other : List ℕ) → faults self.old other ≤ faults self.new other }
         ensures same { (other : List ℕ) → told self.new other ≡ told self.old other };
 }

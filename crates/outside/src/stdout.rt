@@ -33,7 +33,7 @@ impl<'a, R: Print> Sink for StdoutSink<'a, R> {
     }
 }
 
-/// Writes all bytes. A write that takes none of them is a fault.
+// Writes all bytes. A write that takes none of them is a fault.
 fn write_bytes<R: Print>(rt: &R, bytes: &[u8]) -> Result<(), Failed> {
     let mut rest = bytes;
     for _ in 0..u64::MAX {

@@ -4,7 +4,7 @@ use super::*;
 use std::alloc::AllocGlobal;
 use std::test::Fail;
 
-/// Two names with their texts, in sources that fail at these calls.
+// Two names with their texts, in sources that fail at these calls.
 fn two_names<R: AllocGlobal>(rt: &R, fails: &[u64]) -> Result<MemorySources, Fail> {
     let fails = Vec::from_slice(rt.alloc(), fails)?;
     let mut sources = MemorySources::new(rt.alloc(), fails);

@@ -35,7 +35,8 @@ impl<T> Stack<T> {
 
     /// Takes the top off, if there is one.
     pub fn pop(&mut self) -> Option<T>
-        ensures { MatchOption result ((self.old ≡ []) × (self.new ≡ [])) (λ top. self.old ≡ top ∷ self.new) }
+        ensures { MatchOption result ((self.old ≡ []) × (self.new ≡ []))
+            (λ top. self.old ≡ top ∷ self.new) }
     {
         self.items.pop()
     }
