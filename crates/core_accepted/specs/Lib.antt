@@ -1,0 +1,3 @@
+pub mod AcceptedPrograms
+pub mod TreeSites
+pub mod WorkedPrograms

@@ -1,0 +1,20 @@
+pub mod AcceptedRuns
+pub mod Exact
+mod Examples
+pub mod LiftOf
+pub mod Lifted
+pub mod LiftedApart
+pub mod LiftedFlat
+pub mod LiftedKnown
+pub mod LiftedMeets
+pub mod LiftingKeeps
+pub mod Names
+pub mod ReadyLemmas
+pub mod RenamedApart
+pub mod RenamedKnown
+pub mod RenamedNames
+pub mod RenamedSame
+pub mod RenamedScoped
+pub mod RenamingKeeps
+pub mod Variables
+pub mod Whole

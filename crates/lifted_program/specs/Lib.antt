@@ -1,0 +1,10 @@
+pub mod AcceptedLifted
+pub mod Apart
+pub mod Below
+pub mod Captured
+pub mod Flat
+pub mod LetrecNumbers
+pub mod LiftedProgram
+pub mod LiftingLaws
+pub mod Renaming
+pub mod WorkedLifting

@@ -1,0 +1,4 @@
+//! The lifted program: functions of letrecs as functions of the program, and what it keeps.
+#![tactic(auto)]
+
+pub mod laws;
