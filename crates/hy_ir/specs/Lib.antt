@@ -1,0 +1,15 @@
+pub mod Accepting
+pub mod Acts
+pub mod Arity
+pub mod Checking
+pub mod Code
+pub mod LabelledBuiltIns
+pub mod LabelledLaws
+pub mod Meaning
+pub mod MeaningLaws
+pub mod Places
+pub mod Registers
+pub mod SmallCodes
+pub mod Valid
+pub mod View
+pub mod WorkedCodes

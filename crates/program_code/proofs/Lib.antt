@@ -1,0 +1,9 @@
+pub mod RegisterLemmas
+pub mod HeldLemmas
+pub mod PatternLemmas
+pub mod GuardLemmas
+pub mod Following
+pub mod Central
+pub mod Means
+pub mod PieceLemmas
+pub mod Worked

@@ -1,0 +1,10 @@
+pub mod HeldRegisters
+pub mod PatternTests
+pub mod GuardOperations
+pub mod ExpressionCode
+pub mod WrittenRegisters
+pub mod Pieces
+pub mod FittingValues
+pub mod ProgramCode
+pub mod CodeLaws
+pub mod WorkedProgramCode
