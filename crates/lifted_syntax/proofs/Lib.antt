@@ -1,0 +1,5 @@
+pub mod ExtractedResolved
+pub mod KnownWhole
+pub mod LiftedCounts
+pub mod LiftedResolved
+pub mod ProgramResolved

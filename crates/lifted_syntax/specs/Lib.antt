@@ -1,0 +1,5 @@
+pub mod ExtractedSyntax
+pub mod LiftedSyntax
+pub mod LiftedTrees
+pub mod LiftingLaws
+pub mod Whole

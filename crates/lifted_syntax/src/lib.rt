@@ -1,0 +1,4 @@
+//! Programs without letrecs: each function of one becomes a function of the program.
+#![tactic(auto)]
+
+pub mod laws;

@@ -1,0 +1,10 @@
+pub mod AboveForms
+pub mod BelowLimit
+pub mod Binding
+pub mod Finding
+pub mod RenamedEvents
+pub mod RenamedForms
+pub mod RenamedGuards
+pub mod RenamedResolved
+pub mod RenamedSupplied
+pub mod RenamedTrees

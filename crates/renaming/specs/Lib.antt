@@ -1,0 +1,4 @@
+pub mod Bindings
+pub mod RenamedProgram
+pub mod RenamedSyntax
+pub mod VariableLimit
