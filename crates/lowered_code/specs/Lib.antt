@@ -1,0 +1,10 @@
+pub mod Builder
+pub mod LoweredPatterns
+pub mod LoweredGuards
+pub mod LoweredExpressions
+pub mod LoweredCode
+pub mod LoweringLaws
+pub mod WorkedLowering
+pub mod InBounds
+pub mod AcceptedLowering
+pub mod NeededRegisters
