@@ -3,7 +3,7 @@ use Rattle.std.proofs.Common.{◌≡◌, ℕ, ◌<◌, ◌≤◌, ◌==◌, ◌&
 use Rattle.hy_core.specs.Faults.{IsUpTo, lower, same, form_place, order_of}
 use Rattle.hy_core.specs.declared.fault.Form.TheVariants.{Absent}
 use Rattle.hy_core.specs.declared.fault.LintFault.{LintFault}
-use Rattle.core_lint.specs.Earlier.{earlier, is_before}
+use Rattle.core_lint.specs.code.Earlier.{earlier, is_before}
 use Rattle.core_walk.specs.First.{IsFirst}
 use Rattle.core_walk.proofs.FirstLemmas.{upto_same, upto_trans}
 

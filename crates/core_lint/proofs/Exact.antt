@@ -3,7 +3,7 @@ use Rattle.std.proofs.Common.{◌≡◌, ℕ, ◌≤◌, true, List, Option, Som
 use Rattle.std.specs.Prelude.{IfOk}
 use Rattle.std.specs.declared.result.Result.TheVariants.{Ok, Err}
 use Rattle.hy_terms.specs.declared.memory.Memory.{Memory}
-use Rattle.hy_core.specs.Faults.{fault, fault_of, IsFault, IsFunction, IsNode, IsUpTo, same, form_place, order_of}
+use Rattle.hy_core.specs.Faults.{fault, fault_of, IsFault, IsGivenFunction, IsNode, IsUpTo, same, form_place, order_of}
 use Rattle.hy_core.specs.Nodes.{Node}
 use Rattle.hy_core.specs.declared.fault.Form.{Form}
 use Rattle.hy_core.specs.declared.fault.LintFault.{LintFault}
@@ -16,7 +16,7 @@ use Rattle.core_walk.proofs.FirstLemmas.{first_of, first_shown, upto_last, upto_
 
 -- a fault of functions and nodes
 pub data KindFault (AtNode : Module → Node → Form → Type 0) (AtFunction : Module → ℕ → Function → Type 0) (program : Program) (kind : ℕ) : LintFault → Type 0 where
-  in_function : {i j : ℕ} {m : Module} {f : Function} → IsFunction program i j m f → AtFunction m j f → KindFault AtNode AtFunction program kind (fault kind i j 0)
+  in_function : {i j : ℕ} {m : Module} {f : Function} → IsGivenFunction program i j m f → AtFunction m j f → KindFault AtNode AtFunction program kind (fault kind i j 0)
   in_node : {i j k : ℕ} {m : Module} {n : Node} {form : Form} → IsNode program i j k m n → AtNode m n form → KindFault AtNode AtFunction program kind (fault_of kind i j k form)
 
 -- what a check says is so, and it says it of each node and each function that has the fault, of a node with the least form

@@ -9,7 +9,7 @@ use Rattle.std.specs.Str.{bytes_eq}
 use Rattle.hy_terms.specs.Naming.{named, place_in}
 use Rattle.hy_terms.proofs.NamingLemmas.{Names, named-Names, place_in-kept, place_in-Some, slice_get-below, slice_get-kept, slice_get-place_in, slice_get-within}
 use Rattle.indexmap.specs.IndexSet.{insert_key}
-use Rattle.core_lint.specs.Exports.{Row, RowsWithin, has_export, has_row, is_export, is_row}
+use Rattle.core_lint.specs.code.Exports.{Row, RowsWithin, has_export, has_row, is_export, is_row}
 use Rattle.core_lint.proofs.RepeatedLemmas.{eqb-sym, or-true}
 
 is_row-same : (x y : Row) → is_row x y ≡ true → x ≡ y

@@ -9,7 +9,7 @@ use Rattle.hy_core.specs.NameFaults.{IsExported, module_name, modules_of}
 use Rattle.hy_core.specs.declared.tree.FunName.{FunName}
 use Rattle.hy_core.specs.declared.tree.Module.{Module}
 use Rattle.hy_core.specs.declared.tree.Program.{Program}
-use Rattle.core_lint.specs.Exports.{exports_name, is_exported, module_exports}
+use Rattle.core_lint.specs.code.Exports.{exports_name, is_exported, module_exports}
 use Rattle.core_lint.proofs.RepeatedLemmas.{or-true}
 
 contains-first : {A : Type 0} (x : A) (xs : List A) → Contains (x ∷ xs) x

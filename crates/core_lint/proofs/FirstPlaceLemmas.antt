@@ -4,7 +4,7 @@ use Rattle.hy_core.specs.Faults.{IsUpTo, lower, same, form_place, order_of}
 use Rattle.hy_core.specs.declared.fault.LintFault.{LintFault}
 use Rattle.hy_core.specs.declared.tree.Module.{Module}
 use Rattle.core_walk.specs.First.{IsFirst, or_later}
-use Rattle.core_lint.specs.FirstPlace.{fault_at, first_by_module, first_where}
+use Rattle.core_lint.specs.code.FirstPlace.{fault_at, first_by_module, first_where}
 use Rattle.core_walk.proofs.FirstLemmas.{upto_same}
 
 module _ {A : Type 0} (test : ℕ → A → Bool) where

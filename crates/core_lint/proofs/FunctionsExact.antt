@@ -4,10 +4,10 @@ use Rattle.hy_core.specs.Faults as f
 use Rattle.hy_core.specs.Faults.{IsFault, order_of}
 use Rattle.hy_core.specs.declared.fault.LintFault.{LintFault}
 use Rattle.hy_core.specs.declared.tree.Program.{Program}
-use Rattle.core_lint.specs.Earlier.{earlier}
+use Rattle.core_lint.specs.code.Earlier.{earlier}
 use Rattle.core_walk.specs.First.{IsFaultOf, IsFirst}
-use Rattle.core_lint.specs.Unknown as u
-use Rattle.core_lint.specs.Unknown.{IsUnknownOf, IsMissingMain}
+use Rattle.core_lint.specs.code.UnknownFunctions as u
+use Rattle.core_lint.specs.code.UnknownFunctions.{IsUnknownOf, IsMissingMain}
 use Rattle.core_lint.proofs.EarlierLemmas.{IsPlain, earlier_first}
 use Rattle.core_walk.proofs.FirstLemmas.{first_of, upto_same}
 

@@ -7,7 +7,7 @@ use Rattle.std.specs.List.{Contains}
 use Rattle.std.specs.Prelude.{◌↔◌, IfOk, IsTrue, Result, is_some}
 use Rattle.std.specs.declared.result.Result.TheVariants.{Ok, Err}
 use Rattle.hy_terms.specs.declared.memory.Memory.{Memory}
-use Rattle.hy_core.specs.Faults.{Defines, top, local, IsTooGreat, arity, fault, IsFunction}
+use Rattle.hy_core.specs.Faults.{Defines, top, local, IsTooGreat, arity, fault, IsGivenFunction}
 use Rattle.hy_core.specs.Nodes.{Piece, AnExpr, APattern, FirstPattern, Context, Node, node, nodes_of}
 use Rattle.hy_core.specs.SubPatterns.{joined}
 use Rattle.hy_core.specs.Tables.{definitions_at, definitions_layer}
@@ -19,7 +19,7 @@ use Rattle.hy_core.specs.declared.tree.Function.{Function}
 use Rattle.hy_core.specs.declared.tree.Module.{Module}
 use Rattle.hy_core.specs.declared.tree.Program.{Program}
 use Rattle.core_walk.specs.First.{IsFirst, IsShown, by_function, by_node, first_in_modules}
-use Rattle.core_lint.specs.GreatArity.{HasGreat, any_is_great, great, is_great}
+use Rattle.core_lint.specs.code.GreatArity.{HasGreat, any_is_great, great, is_great}
 use Rattle.core_walk.specs.Walk.{form_at, form_if}
 use Rattle.core_walk.proofs.FirstLemmas.{first_shown}
 use Rattle.core_lint.proofs.RepeatedExact.{form_if-Some}
@@ -88,7 +88,7 @@ module _ (kind : ℕ) (program : Program) where
   is-shown : HasGreat program.given → (x : LintFault) × IsShown great program kind x
   is-shown h = by h.defines
     where
-      around : (f : Function) (k : Contains h.m.functions f) → IsFunction program h.stands.0 k.0 h.m f
+      around : (f : Function) (k : Contains h.m.functions f) → IsGivenFunction program h.stands.0 k.0 h.m f
       around f k = record { given = Contains-get program.given h.m h.stands; defined = Contains-get h.m.functions f k }
 
       by : Defines h.m h.f → (x : LintFault) × IsShown great program kind x
@@ -116,7 +116,7 @@ pub great_in : (program : Program) → HasGreat program.given ⊎ HasGreat progr
 great_in program (inl h) = arity (Contains-append_left program.given program.prelude h.m h.stands) h.defines h.is_great
 great_in program (inr h) = arity (Contains-append_right program.given program.prelude h.m h.stands) h.defines h.is_great
 
-in_great : (program : Program) → IsTooGreat program Arity → HasGreat program.given ⊎ HasGreat program.prelude
+pub in_great : (program : Program) → IsTooGreat program Arity → HasGreat program.given ⊎ HasGreat program.prelude
 in_great program h = of_form Arity h refl
   where
     either : (m : Module) (f : Function) → Contains program.given m ⊎ Contains program.prelude m → Defines m f → 255 < f.name.arity → HasGreat program.given ⊎ HasGreat program.prelude

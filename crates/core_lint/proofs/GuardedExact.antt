@@ -5,7 +5,7 @@ use Rattle.hy_terms.specs.Naming.{text_of}
 use Rattle.hy_core.specs.BuiltIn.{operation_named}
 use Rattle.hy_core.specs.NodeFaults.{IsForbiddenInGuard, forbidden, IsGuardExpr, integer, atom, nil, variable, let_in, built_in, whole, IsGuardForm, two_caught, three_caught}
 use Rattle.hy_core.specs.Nodes.{Piece, AnExpr, APattern, FirstPattern, Context, Node, node}
-use Rattle.hy_core.specs.Numbered.{atom_layer}
+use Rattle.hy_core.specs.NodeParts.{atom_layer}
 use Rattle.hy_core.specs.Resolve.{are_two_or_three}
 use Rattle.hy_core.specs.declared.fault.Form.{Form}
 use Rattle.hy_core.specs.declared.fault.Form.TheVariants.{Absent}
@@ -20,8 +20,8 @@ use Rattle.hy_core.specs.declared.tree.Expr.TheViews.{out-Expr, roll-Expr, roll-
 use Rattle.hy_core.specs.declared.tree.Function.{Function}
 use Rattle.hy_core.specs.declared.tree.Module.{Module}
 use Rattle.core_names.specs.Called.{called, does_of}
-use Rattle.core_lint.specs.GuardForm.{has_guard_form, is_false, is_variable, is_whole_guard}
-use Rattle.core_lint.specs.Guarded.{guarded, is_allowed, is_plain}
+use Rattle.core_lint.specs.code.GuardForm.{has_guard_form, is_false, is_variable, is_whole_guard}
+use Rattle.core_lint.specs.code.Guards.{guarded, is_allowed, is_plain}
 use Rattle.core_walk.specs.Walk.{form_at, form_if}
 use Rattle.core_names.specs.declared.built_in.BuiltIn.{BuiltIn}
 use Rattle.core_names.specs.declared.built_in.BuiltIn.TheVariants.{Plain, Setelement, Spawn, Other}

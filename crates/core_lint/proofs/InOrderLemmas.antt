@@ -1,12 +1,12 @@
 -- The first fault of the first kind that has one is the least.
-use Rattle.std.proofs.Common.{◌≡◌, ℕ, ◌+◌, ◌<◌, ◌≤◌, ◌⊎◌, inl, inr, nat_lt, Bool, true, false, Option, is_some, Some, None, refl, arith, ltb-true, ltb-false}
+use Rattle.std.proofs.Common.{◌≡◌, ℕ, ◌+◌, ◌<◌, ◌≤◌, ◌⊎◌, inl, inr, nat_lt, Bool, true, false, Option, is_some, Some, None, refl, subst, arith, ltb-true, ltb-false}
 use Rattle.std.specs.Prelude.{MatchOption}
 use Rattle.hy_core.specs.Faults as f
 use Rattle.hy_core.specs.Faults.{IsAccepted, IsFault, IsLeastFault, IsUpTo, lower, order_of}
 use Rattle.hy_core.specs.declared.fault.LintFault.{LintFault}
 use Rattle.hy_core.specs.declared.tree.Program.{Program}
 use Rattle.core_walk.specs.First.{IsFaultOf, IsFirst}
-use Rattle.core_lint.specs.InOrder.{HasNoneBelow}
+use Rattle.core_lint.specs.code.InOrder.{HasNoneBelow}
 
 -- there are ten kinds
 pub kind-within : {program : Program} {x : LintFault} → IsFault program x → (1 ≤ x.kind) × (x.kind ≤ 10)
@@ -57,3 +57,7 @@ module _ (program : Program) where
   pub found_of_kind : (kind : ℕ) → HasNoneBelow program kind → (found : Option LintFault) → IsFirst (IsFaultOf program kind) found → is_some found ≡ true → MatchOption found (HasNoneBelow program 10) (IsLeastFault program)
   found_of_kind kind before None first e = absurd cc
   found_of_kind kind before (Some x) first e = least_of_kind kind before x first
+
+  -- where nothing is found, none of these kinds has a fault
+  pub none_found : (found : Option LintFault) → found ≡ None → MatchOption found (HasNoneBelow program 10) (IsLeastFault program) → HasNoneBelow program 10
+  none_found found is h = subst (λ o. MatchOption o (HasNoneBelow program 10) (IsLeastFault program)) is h

@@ -1,5 +1,6 @@
 pub mod Exact
 pub mod ExportLemmas
+pub mod ExportTables
 pub mod ExportedLemmas
 pub mod OfKind
 pub mod GreatExact
@@ -9,15 +10,19 @@ pub mod MainExact
 pub mod NamedExact
 pub mod SizesLemmas
 pub mod PlaceLemmas
+pub mod PlacedLemmas
+pub mod ProgramTexts
 pub mod FirstPlaceLemmas
 pub mod FunctionsExact
 pub mod EarlierLemmas
 pub mod RepeatedNamesExact
-pub mod ProfileExact
+pub mod SubsetExact
 pub mod RepeatedExact
 pub mod RepeatedLemmas
+pub mod TextLemmas
 pub mod UnboundExact
 pub mod UndefinedExact
 pub mod UnknownExact
 pub mod UnknownLemmas
 pub mod ValuedExact
+pub mod VerdictLemmas

@@ -5,10 +5,10 @@ use Rattle.hy_core.specs.NameFaults.{ExportsMain, exports_main}
 use Rattle.hy_core.specs.declared.fault.LintFault.{LintFault}
 use Rattle.hy_core.specs.declared.tree.Module.{Module}
 use Rattle.hy_core.specs.declared.tree.Program.{Program}
-use Rattle.core_lint.specs.Exports.{exports_name}
+use Rattle.core_lint.specs.code.Exports.{exports_name}
 use Rattle.core_walk.specs.First.{IsFirst}
-use Rattle.core_lint.specs.MainExport.{first_missing}
-use Rattle.core_lint.specs.Unknown.{IsMissingMain, no_main}
+use Rattle.core_lint.specs.code.MissingMain.{first_missing}
+use Rattle.core_lint.specs.code.UnknownFunctions.{IsMissingMain, no_main}
 use Rattle.core_lint.proofs.ExportedLemmas.{name-found, name-kept}
 use Rattle.core_walk.proofs.FirstLemmas.{upto_same}
 

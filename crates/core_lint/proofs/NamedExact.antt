@@ -9,7 +9,7 @@ use Rattle.hy_core.specs.declared.fault.LintFault.{LintFault}
 use Rattle.hy_core.specs.declared.tree.Module.{Module}
 use Rattle.hy_core.specs.declared.tree.Program.{Program}
 use Rattle.core_walk.specs.First.{IsFaultOf, IsFirst}
-use Rattle.core_lint.specs.Named.{first_repeated, is_named, repeats_name}
+use Rattle.core_lint.specs.code.RepeatedModules.{first_repeated, is_named, repeats_name}
 use Rattle.core_walk.proofs.FirstLemmas.{first_of, upto_same}
 use Rattle.core_lint.proofs.PlaceLemmas.{get-index, get-take, index-get, take-get}
 

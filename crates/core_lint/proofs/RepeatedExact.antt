@@ -14,7 +14,7 @@ use Rattle.hy_core.specs.declared.tree.Expr.TheVariants as v
 use Rattle.hy_core.specs.declared.tree.Expr.TheViews.{out-Expr, roll-Expr, roll-out-Expr, outs-Let, outs-Letrec, outs-Try, outs-Fun}
 use Rattle.hy_core.specs.declared.tree.Function.{Function}
 use Rattle.hy_core.specs.declared.tree.Module.{Module}
-use Rattle.core_lint.specs.Repeated.{repeated, repeated_layer, repeats, repeats_parameter}
+use Rattle.core_lint.specs.code.RepeatedVariables.{repeated, repeated_layer, repeats, repeats_parameter}
 use Rattle.core_walk.specs.Walk.{form_at, form_if}
 use Rattle.core_lint.proofs.Exact.{IsExact}
 use Rattle.core_lint.proofs.OfKind.{RepeatedAt, RepeatedParameter}

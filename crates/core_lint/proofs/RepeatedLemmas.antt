@@ -4,7 +4,7 @@ use Rattle.std.proofs.Math.Seq.{drop-cons}
 use Rattle.std.specs.List.{list_any, slice_index_or}
 use Rattle.hy_core.specs.NodeFaults.{Repeats, first_again, behind_first}
 use Rattle.core_walk.specs.Bound.{is_bound}
-use Rattle.core_lint.specs.Repeated.{repeats, repeats_after}
+use Rattle.core_lint.specs.code.RepeatedVariables.{repeats, repeats_after}
 use Rattle.core_walk.proofs.BoundLemmas.{is_bound-Contains, Contains-is_bound}
 
 pub eqb-sym : (x y : ℕ) → (x == y) ≡ (y == x)

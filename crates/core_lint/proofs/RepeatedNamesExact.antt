@@ -22,9 +22,9 @@ use Rattle.hy_core.specs.declared.tree.Function.{Function}
 use Rattle.hy_core.specs.declared.tree.Module.{Module}
 use Rattle.hy_core.specs.declared.tree.Program.{Program}
 use Rattle.core_walk.specs.First.{IsFaultOf, IsFirst, first_in_modules}
-use Rattle.core_lint.specs.Earlier as e
-use Rattle.core_lint.specs.FirstPlace.{fault_at}
-use Rattle.core_lint.specs.RepeatedNames.{first_again as first_of_names, first_repeated_function, repeated_names, repeated_names_layer, repeats_earlier}
+use Rattle.core_lint.specs.code.Earlier as e
+use Rattle.core_lint.specs.code.FirstPlace.{fault_at}
+use Rattle.core_lint.specs.code.RepeatedFunctions.{first_again as first_of_names, first_repeated_function, repeated_names, repeated_names_layer, repeats_earlier}
 use Rattle.core_walk.specs.Walk.{form_at, form_if}
 use Rattle.core_walk.proofs.NameCountLemmas.{Contains-is_local, is_local-Contains, same-is_name, is_name-same}
 use Rattle.core_lint.proofs.EarlierLemmas.{IsPlain, earlier_first}

@@ -13,7 +13,7 @@ use Rattle.std.specs.declared.result.Result.TheVariants.{Err}
 use Rattle.core_lint.specs.declared.answer.LintAnswer.{LintAnswer}
 use Rattle.core_lint.specs.declared.answer.LintAnswer.TheVariants.{Fault}
 use Rattle.core_walk.specs.First.{IsFaultOf, IsFirst}
-use Rattle.core_lint.specs.Sizes.{IsFirstSize, IsWithinBefore}
+use Rattle.core_lint.specs.code.Sizes.{IsFirstSize, IsWithinBefore}
 use Rattle.core_walk.proofs.FirstLemmas.{upto_last}
 
 module _ (program : Program) where
@@ -44,29 +44,29 @@ module _ (program : Program) where
   past_arity few small _ (f.sites h) = omega arith
   past_arity few small _ (f.atoms h) = omega arith
 
-  past_sites : HasFewFunctions → HasSmallArities → HasFewSites → (other : Form) → IsTooGreat program other → 13 ≤ form_place other
-  past_sites few small little _ (f.functions h) = absurd (omega (arith, few, h))
-  past_sites few small little _ (f.arity m d h) = absurd (small (f.arity m d h))
-  past_sites few small little _ (f.sites h) = absurd (omega (arith, little, h))
-  past_sites few small little _ (f.atoms h) = omega arith
-
   pub many_functions : 65535 < length (program_functions program) → IsFirstSize program form.Functions
   many_functions h = record { great = f.functions h; first = place }
 
   pub great_arity : HasFewFunctions → IsTooGreat program form.Arity → IsFirstSize program form.Arity
   great_arity few h = record { great = h; first = past_functions few }
 
-  pub many_sites : HasFewFunctions → HasSmallArities → 2 ^ 20 < length (program_sites program) → IsFirstSize program form.Sites
-  many_sites few small h = record { great = f.sites h; first = past_arity few small }
+  pub within_sites : HasFewFunctions → HasSmallArities → IsWithinBefore program 12
+  within_sites few small other h below = omega (arith, below, past_arity few small other h)
 
-  pub within_atoms : HasFewFunctions → HasSmallArities → HasFewSites → IsWithinBefore program 13
-  within_atoms few small little other h below = omega (arith, below, past_sites few small little other h)
+  at_least : (most n : ℕ) → (n < most → ⊥) → most ≤ n
+  at_least most n not_below = omega (arith, not_below)
+
+  pub many_sites : IsWithinBefore program 12 → 2 ^ 20 < length (program_sites program) → IsFirstSize program form.Sites
+  many_sites before h = record { great = f.sites h; first = λ other k. at_least 12 (form_place other) (before other k) }
+
+  pub within_atoms : IsWithinBefore program 12 → HasFewSites → IsWithinBefore program 13
+  within_atoms before few _ (f.functions h) below = before form.Functions (f.functions h) (omega arith)
+  within_atoms before few _ (f.arity m d h) below = before form.Arity (f.arity m d h) (omega arith)
+  within_atoms before few _ (f.sites h) below = omega (arith, few, h)
+  within_atoms before few _ (f.atoms h) below = omega (arith, below)
 
   pub many_atoms : IsWithinBefore program 13 → 2 ^ 20 < length (program_atoms program) → IsFirstSize program form.Atoms
-  many_atoms before h = record { great = f.atoms h; first = λ other k. at_least (form_place other) (before other k) }
-    where
-      at_least : (n : ℕ) → (n < 13 → ⊥) → 13 ≤ n
-      at_least n not_below = omega (arith, not_below)
+  many_atoms before h = record { great = f.atoms h; first = λ other k. at_least 13 (form_place other) (before other k) }
 
   -- a fault of the tenth kind is one of sizes
   of_size : (y : LintFault) → IsFault program y → y.kind ≡ 10 → (form : Form) × IsTooGreat program form × (y ≡ fault_of 10 0 0 0 form)

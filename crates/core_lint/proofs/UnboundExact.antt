@@ -13,7 +13,7 @@ use Rattle.hy_core.specs.declared.tree.Expr.TheViews.{out-Expr, roll-Expr, roll-
 use Rattle.hy_core.specs.declared.tree.Function.{Function}
 use Rattle.hy_core.specs.declared.tree.Module.{Module}
 use Rattle.core_walk.specs.Bound.{is_bound}
-use Rattle.core_lint.specs.Unbound.{unbound, unbound_layer}
+use Rattle.core_lint.specs.code.UnboundVariables.{unbound, unbound_layer}
 use Rattle.core_walk.specs.Walk.{form_at}
 use Rattle.core_walk.proofs.BoundLemmas.{is_bound-Contains, Contains-is_bound}
 use Rattle.core_lint.proofs.Exact.{IsExact}

@@ -10,8 +10,8 @@ use Rattle.hy_core.specs.declared.tree.FunName.{FunName}
 use Rattle.hy_core.specs.declared.tree.Module.{Module}
 use Rattle.hy_core.specs.declared.tree.Program.{Program}
 use Rattle.core_walk.specs.First.{IsFaultOf, IsFirst}
-use Rattle.core_lint.specs.FirstPlace.{fault_at}
-use Rattle.core_lint.specs.RepeatedNames.{first_undefined, first_undefined_export}
+use Rattle.core_lint.specs.code.FirstPlace.{fault_at}
+use Rattle.core_lint.specs.code.RepeatedFunctions.{first_undefined, first_undefined_export}
 use Rattle.core_walk.proofs.NameCountLemmas.{Contains-is_local, is_local-Contains}
 use Rattle.core_walk.proofs.FirstLemmas.{first_of, upto_same}
 use Rattle.core_lint.proofs.FirstPlaceLemmas.{InModules, IsFaultAt, modules_first, place_first}

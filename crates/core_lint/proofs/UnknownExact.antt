@@ -9,7 +9,7 @@ use Rattle.hy_core.specs.BuiltIn.{Operation, Spawns, operation_named}
 use Rattle.hy_core.specs.NameFaults.{FitsArity, IsExported, IsUnknownFunction, unknown_name, other_arguments, unknown_call, unknown_spawn, other_parameters}
 use Rattle.hy_core.specs.NodeFaults.{IsListOf, no_element, elements}
 use Rattle.hy_core.specs.Nodes.{Piece, AnExpr, APattern, FirstPattern, Context, Node, node, is_nil_layer}
-use Rattle.hy_core.specs.Numbered.{atom_layer}
+use Rattle.hy_core.specs.NodeParts.{atom_layer}
 use Rattle.hy_core.specs.Resolve.{is_local}
 use Rattle.hy_core.specs.declared.fault.Form.{Form}
 use Rattle.hy_core.specs.declared.fault.Form.TheVariants.{Absent}
@@ -26,14 +26,14 @@ use Rattle.hy_core.specs.declared.tree.Function.{Function}
 use Rattle.hy_core.specs.declared.tree.Module.{Module}
 use Rattle.hy_core.specs.declared.tree.Program.{Program}
 use Rattle.core_names.specs.Called.{does_of}
-use Rattle.core_lint.specs.Exports.{ExportTable, has_export}
+use Rattle.core_lint.specs.code.Exports.{ExportTable, has_export}
 use Rattle.core_walk.specs.First.{IsFirst, first_in_modules}
-use Rattle.core_lint.specs.Unknown.{IsUnknownOf, other_arity, unknown_function, calls_unknown, fits_arity, has_other_parameters, is_spawned_absent, is_unknown_call, is_unknown_name, name_layer, own_names, spawns_unknown, unknown, unknown_layer, written_length}
+use Rattle.core_lint.specs.code.UnknownFunctions.{IsUnknownOf, other_arity, unknown_function, calls_unknown, fits_arity, has_other_parameters, is_spawned_absent, is_unknown_call, is_unknown_name, name_layer, own_names, spawns_unknown, unknown, unknown_layer, written_length}
 use Rattle.core_walk.specs.Walk.{form_at, form_if}
 use Rattle.core_lint.proofs.Exact.{IsExact, KindFault, in_function, in_node, holding_first}
 use Rattle.core_lint.proofs.GuardedExact.{atom-is, is_rolled}
 use Rattle.core_walk.proofs.NameCountLemmas.{is_local-Contains, Contains-is_local}
-use Rattle.core_lint.proofs.ProfileExact.{nil-is}
+use Rattle.core_lint.proofs.SubsetExact.{nil-is}
 use Rattle.core_lint.proofs.RepeatedExact.{form_if-Some}
 use Rattle.core_lint.proofs.RepeatedLemmas.{not-true}
 

@@ -6,9 +6,9 @@ use Rattle.hy_core.specs.declared.fault.LintFault.{LintFault}
 use Rattle.hy_core.specs.declared.tree.FunName.{FunName}
 use Rattle.hy_core.specs.declared.tree.Function.{Function}
 use Rattle.hy_core.specs.declared.tree.Module.{Module}
-use Rattle.core_lint.specs.Exports.{ExportTable}
+use Rattle.core_lint.specs.code.Exports.{ExportTable}
 use Rattle.core_walk.specs.First.{fault_or, first_in_functions, function_outcome}
-use Rattle.core_lint.specs.Unknown.{own_names, unknown}
+use Rattle.core_lint.specs.code.UnknownFunctions.{own_names, unknown}
 
 module _ (table : ExportTable) (m : Module) (defined : List FunName) (is : defined ≡ own_names m) where
   same_outcome : (j : ℕ) (f : Function) → function_outcome (unknown table (λ _. defined)) m j f ≡ function_outcome (unknown table own_names) m j f

@@ -13,7 +13,7 @@ use Rattle.hy_core.specs.declared.tree.Expr.TheVariants as v
 use Rattle.hy_core.specs.declared.tree.Expr.TheViews.{out-Expr, roll-Expr, roll-out-Expr, outs-Case, outs-Receive}
 use Rattle.hy_core.specs.declared.tree.Function.{Function}
 use Rattle.hy_core.specs.declared.tree.Module.{Module}
-use Rattle.core_lint.specs.Valued.{all_have, differs, valued, wrong_patterns}
+use Rattle.core_lint.specs.code.WrongValues.{all_have, differs, valued, wrong_patterns}
 use Rattle.core_walk.specs.Walk.{form_at, form_if}
 use Rattle.core_lint.proofs.Exact.{IsExact}
 use Rattle.core_lint.proofs.OfKind.{AtNoFunction, ValuesAt}

@@ -1,9 +1,9 @@
 ghost use Rattle.std.specs.Prelude.{◌≡◌, ◌↔◌, IfOk, IsTrue};
 ghost use Rattle.hy_core.specs.Faults.{IsTooGreat};
 ghost use Rattle.hy_core.specs.declared.fault.Form.TheVariants.{Arity};
-ghost use Rattle.core_lint.specs.GreatArity.{HasGreat, any_is_great as one_is_great, great, is_great as is_so_great};
+ghost use Rattle.core_lint.specs.code.GreatArity.{HasGreat, any_is_great as one_is_great, great, is_great as is_so_great};
 
-use core_walk::{Check, Position, Spot, first_in_program, form_of};
+use core_walk::{Check, Demand, Position, first_in_program, form_of};
 use hy_core::{Expr, Form, Function, Module, Pattern, Program};
 use hy_terms::Memory;
 use std::alloc::Global;
@@ -42,7 +42,7 @@ impl Check for GreatArity {
         _names: &Module,
         expr: &Expr,
         _at: &Position,
-        _spot: Spot,
+        _demand: Demand,
     ) -> Result<Option<Form>, Memory> {
         if let Expr::Letrec { functions, body: _ } = expr {
             return Ok(form_of(any_is_great(functions.as_slice())));

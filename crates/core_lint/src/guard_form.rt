@@ -1,15 +1,14 @@
 ghost use Rattle.std.specs.Prelude.{◌≡◌};
 ghost use Rattle.hy_core.specs.declared.tree.Expr.TheViews.{out-Expr};
-ghost use Rattle.core_lint.specs.GuardForm.{has_guard_form as is_of_guard_form, is_false as is_answer_false, is_variable as is_same_variable, is_whole_guard as is_guard_whole};
+ghost use Rattle.core_lint.specs.code.GuardForm.{has_guard_form as is_of_guard_form, is_false as is_answer_false, is_variable as is_same_variable, is_whole_guard as is_guard_whole};
 
-use core_names::atom_text;
 use hy_core::{Expr, Module, Place};
 
 fn is_false(names: &Module, expr: &Expr) -> bool
     ensures { result ≡ is_answer_false names.now (out-Expr expr.now) }
 {
     if let Expr::Atom(atom) = expr {
-        atom_text(names, *atom) == b"false".as_slice()
+        names.atoms.text_of(*atom) == b"false".as_slice()
     } else {
         false
     }
@@ -33,7 +32,8 @@ pub fn has_guard_form(
     caught: &[u32],
     answer: &Expr,
 ) -> bool
-    ensures { result ≡ is_of_guard_form names.now vars.now (out-Expr body.now) caught.now (out-Expr answer.now) }
+    ensures { result ≡ is_of_guard_form names.now vars.now (out-Expr body.now) caught.now
+        (out-Expr answer.now) }
 {
     match vars {
         [variable] => {

@@ -1,17 +1,17 @@
 ghost use Rattle.std.specs.Prelude.{◌≤◌, IfOk, MatchOption};
 ghost use Rattle.hy_core.specs.Faults.{IsLeastFault};
 ghost use Rattle.core_walk.specs.First.{IsFaultOf, IsFirst};
-ghost use Rattle.core_lint.specs.InOrder.{HasNoneBelow};
+ghost use Rattle.core_lint.specs.code.InOrder.{HasNoneBelow};
 
-use crate::functions::missing_function;
-use crate::guarded::forbidden_in_guard;
-use crate::named::repeated_module;
-use crate::profile::forbidden_form;
-use crate::repeated::repeated_variable;
-use crate::repeated_names::repeated_function;
-use crate::unbound::unbound_variable;
-use crate::undefined::undefined_export;
-use crate::valued::wrong_values;
+use crate::forbidden_forms::forbidden_form;
+use crate::guards::forbidden_in_guard;
+use crate::missing_functions::missing_function;
+use crate::repeated_functions::repeated_function;
+use crate::repeated_modules::repeated_module;
+use crate::repeated_variables::repeated_variable;
+use crate::unbound_variables::unbound_variable;
+use crate::undefined_exports::undefined_export;
+use crate::wrong_values::wrong_values;
 use hy_core::{LintFault, Program};
 use hy_terms::Memory;
 use std::alloc::Global;
@@ -40,7 +40,8 @@ fn first_of_kind(alloc: Global, program: &Program, kind: u8) -> Result<Option<Li
 
 /// The least fault of a program, sizes that are too great aside.
 pub fn first_in_kinds(alloc: Global, program: &Program) -> Result<Option<LintFault>, Memory>
-    ensures { IfOk result (λ found. MatchOption found (HasNoneBelow program.now 10) (IsLeastFault program.now)) }
+    ensures { IfOk result (λ found. MatchOption found (HasNoneBelow program.now 10)
+        (IsLeastFault program.now)) }
 {
     for kind in 1..=KINDS {
         let found = first_of_kind(alloc, program, kind)?;

@@ -1,29 +1,28 @@
 //! The linter: the least fault of a program, or its own numbers and its tables.
 #![tactic(auto)]
 
-mod accepted;
 mod answer;
+mod earlier;
 mod exports;
-mod functions;
+mod forbidden_forms;
 mod great_arity;
 mod guard_form;
-mod guarded;
+mod guards;
 mod kinds;
-mod lesser;
+mod laws;
 mod linted;
-mod main_export;
-mod named;
-mod profile;
-mod repeated;
-mod repeated_names;
+mod missing_functions;
+mod missing_main;
+mod on_exprs;
+mod repeated_functions;
+mod repeated_modules;
+mod repeated_variables;
 mod sizes;
-#[cfg(test)]
-mod tests;
-mod unbound;
-mod undefined;
-mod unknown;
-mod valued;
+mod unbound_variables;
+mod undefined_exports;
+mod unknown_functions;
+mod wrong_values;
 
-pub use accepted::first_fault;
 pub use answer::LintAnswer;
+pub use laws::some_verdict;
 pub use linted::{Linted, lint};

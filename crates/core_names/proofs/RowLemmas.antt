@@ -5,7 +5,7 @@ use Rattle.std.specs.Str.{bytes_eq}
 use Rattle.hy_core.specs.BuiltIn as built
 use Rattle.hy_core.specs.BuiltIn.{operation_in, operation_named, operation_of, operations}
 use Rattle.core_names.specs.Called.{does, does_of}
-use Rattle.core_names.specs.Rows.{Row, stands_in, arithmetic_rows, test_rows, term_rows, change_rows, send_rows, spawn_rows, raise_rows, built_in_named}
+use Rattle.core_names.specs.code.Rows.{Row, stands_in, arithmetic_rows, test_rows, term_rows, change_rows, send_rows, spawn_rows, raise_rows, built_in_named}
 use Rattle.core_names.specs.declared.built_in.BuiltIn.{BuiltIn}
 use Rattle.core_names.specs.declared.built_in.BuiltIn.TheVariants.{Plain, Setelement, Spawn, Other}
 

@@ -21,6 +21,7 @@ does_of (Some operation) = Some (does operation)
 
 -- the built-in that a call is whose module and name are these atoms
 abbrev pub called : Module → Option ℕ → Option ℕ → (arity : ℕ) → Option BuiltIn
-called m (Some a) (Some b) arity = does_of (operation_named (text_of m.atoms a) (text_of m.atoms b) arity)
+called m (Some a) (Some b) arity =
+    does_of (operation_named (text_of m.atoms a) (text_of m.atoms b) arity)
 called m (Some a) None arity = None
 called m None b arity = None

@@ -1,2 +1,2 @@
 pub mod Called
-pub mod Rows
+pub mod code

@@ -2,12 +2,11 @@ ghost use Rattle.std.specs.Prelude.{◌≡◌, ◌==◌, ◌&&◌};
 ghost use Rattle.std.specs.List.{list_any};
 ghost use Rattle.std.specs.Str.{bytes_eq};
 ghost use Rattle.hy_core.specs.BuiltIn.{operation_named};
-ghost use Rattle.hy_core.specs.Numbered.{atom_layer};
+ghost use Rattle.hy_core.specs.NodeParts.{atom_layer};
 ghost use Rattle.hy_core.specs.declared.tree.Expr.TheViews.{out-Expr};
 ghost use Rattle.core_names.specs.Called.{called as is_called, does_of};
-ghost use Rattle.core_names.specs.Rows.{stands_in, arithmetic_rows, test_rows, term_rows, change_rows, send_rows, spawn_rows, raise_rows, built_in_named as built_in_so_named};
+ghost use Rattle.core_names.specs.code.Rows.{stands_in, arithmetic_rows, test_rows, term_rows, change_rows, send_rows, spawn_rows, raise_rows, built_in_named as built_in_so_named};
 
-use crate::names::atom_text;
 use hy_core::{Expr, Module};
 
 /// What a built-in does, as far as the faults and the sites of a program go.
@@ -175,9 +174,10 @@ fn built_in_of(place: &[u8], name: &[u8], arity: usize) -> Option<BuiltIn>
 
 /// The built-in that a call of this module and name with so many arguments is, where it is one.
 pub fn called(names: &Module, place: &Expr, name: &Expr, arity: usize) -> Option<BuiltIn>
-    ensures { result ≡ is_called names.now (atom_layer (out-Expr place.now)) (atom_layer (out-Expr name.now)) arity }
+    ensures { result ≡ is_called names.now (atom_layer (out-Expr place.now))
+        (atom_layer (out-Expr name.now)) arity }
 {
     let place = atom_of(place)?;
     let name = atom_of(name)?;
-    built_in_of(atom_text(names, place), atom_text(names, name), arity)
+    built_in_of(names.atoms.text_of(place), names.atoms.text_of(name), arity)
 }

@@ -4,20 +4,9 @@ ghost use Rattle.hy_core.specs.Resolve.{is_match_fail as names_match_fail};
 
 use hy_core::Module;
 
-/// The text of an atom of a module; one that the table doesn't have has the empty text.
-pub fn atom_text(names: &Module, atom: u32) -> &[u8]
-    ensures { result.now ≡ text_of names.now.atoms atom }
-{
-    if atom < names.atoms.len() {
-        names.atoms.text(atom)
-    } else {
-        b""
-    }
-}
-
 /// Whether a primop is `match_fail` with one argument.
 pub fn is_match_fail(names: &Module, name: u32, arity: usize) -> bool
     ensures { result ≡ names_match_fail (text_of names.now.atoms name) arity }
 {
-    atom_text(names, name) == b"match_fail".as_slice() && arity == 1
+    names.atoms.text_of(name) == b"match_fail".as_slice() && arity == 1
 }

@@ -2,10 +2,10 @@
 use Rattle.std.proofs.Common.{◌≡◌, ℕ, ◌≤◌, ◌<◌, leb, Bool, true, false, cond, List, [], ◌∷◌, ◌++◌, Option, Some, None, ◌⊎◌, inl, inr, refl, sym, ap, subst, ◌∙◌, arith}
 use Rattle.std.proofs.lemmas.List.{append_assoc, append-nil}
 use Rattle.std.proofs.lemmas.Bool.Decides.{leb_tells}
-use Rattle.hy_core.specs.Marks.{Marked, plain, word, value}
+use Rattle.hy_core.specs.Marks.{Marked, plain, symbol, value}
 use Rattle.hy_core.specs.Numbering.{atom_number, with_atom, no_tables}
 use Rattle.hy_core.specs.Annotations.{IsNote}
-use Rattle.hy_core.specs.declared.token.Word.TheVariants as w
+use Rattle.hy_core.specs.declared.token.Symbol.TheVariants as w
 use Rattle.hy_core.specs.declared.token.Sign.TheVariants as sign
 use Rattle.hy_core.specs.declared.token.Token.{Token}
 use Rattle.hy_core.specs.declared.token.Token.TheVariants as t
@@ -23,13 +23,13 @@ use Rattle.hy_core.specs.Expressions as exprs
 use Rattle.hy_core.specs.Expressions.{named_by}
 use Rattle.hy_core.specs.Grammar as mods
 use Rattle.hy_core.specs.Grammar.{the_module_info, IsDropped}
-use Rattle.core_parse.specs.Machine.{state, closing, is_word, is_next, with_values, with_built, clause_begun, function_begun, definition_begun, info_arity_moved, info_export_moved, aliased_by, behind_note, clause_rest, goal_moved, annotation_mark, clause_mark, mark, settled}
-use Rattle.core_parse.specs.Trees.{built, atom_built}
-use Rattle.core_parse.specs.Tops.{with_top, top_pattern}
-use Rattle.core_parse.proofs.Tests.{first_of, word_at, next_not}
+use Rattle.core_parse.specs.code.Pushdown.{state, closing, is_symbol, is_next, with_values, with_built, clause_begun, function_begun, definition_begun, info_arity_moved, info_export_moved, aliased_by, behind_note, clause_rest, goal_moved, annotation_mark, clause_mark, mark, settled}
+use Rattle.core_parse.specs.code.Trees.{built, atom_built}
+use Rattle.core_parse.specs.code.Tops.{with_top, top_pattern}
+use Rattle.core_parse.proofs.Tests.{first_of, symbol_at, next_not}
 use Rattle.core_parse.proofs.Meaning.{Completes, OnBuilt, DefinedThen, ExportedThen}
 use Rattle.core_parse.proofs.Forth.{Moves}
-use Rattle.core_parse.proofs.Back.{if_back, on_back, at_word, note_back, key_back, primop_back, value_back, bindings_back}
+use Rattle.core_parse.proofs.Back.{if_back, on_back, at_symbol, note_back, key_back, primop_back, value_back, bindings_back}
 use Rattle.core_parse.proofs.BackExprs.{clause_back, body_back, function_name_back, definition_name_back, name_to, module_back}
 use Rattle.core_parse.proofs.BackLists.{part_back, parts_back, more_back, heads_back, ends_back, tail_back}
 use Rattle.hy_core.specs.declared.tree.FunName.{FunName}
@@ -42,30 +42,30 @@ use Rattle.hy_core.specs.declared.tree.Expr.TheVariants as e
 -- ---- names
 
 name_back : (gs : List Goal) (vs : List Value) (s : Tables) (token : Token) (q : List Marked) (z : Module) → Moves (goal_moved g.NameOrAtom gs vs s token) q z → Completes (g.NameOrAtom ∷ gs) vs s (plain token ∷ q) z
-name_back gs vs s token q z h = at_word (g.NameOrAtom ∷ gs) vs s w.Slash token q z (on_back w.Slash token _ q z h).0 (rest vs (on_back w.Slash token _ q z h).1)
+name_back gs vs s token q z h = at_symbol (g.NameOrAtom ∷ gs) vs s w.Slash token q z (on_back w.Slash token _ q z h).0 (rest vs (on_back w.Slash token _ q z h).1)
   where
-    rest : (vs : List Value) → Completes (g.Arity ∷ gs) vs s q z → Completes (g.NameOrAtom ∷ gs) vs s (word w.Slash ∷ q) z
+    rest : (vs : List Value) → Completes (g.Arity ∷ gs) vs s q z → Completes (g.NameOrAtom ∷ gs) vs s (symbol w.Slash ∷ q) z
     rest (v.Atom a ∷ vs) c = inr (q, refl, c)
     rest _ c = absurd c
 
-alias_from : (n : ℕ) (gs : List Goal) (x : Pattern) (vs : List Value) (s : Tables) (q : List Marked) (z : Module) → Moves (aliased_by n gs x vs s) q z → Completes (g.Alias n ∷ gs) (v.Pattern x ∷ vs) s (word w.Equals ∷ q) z
+alias_from : (n : ℕ) (gs : List Goal) (x : Pattern) (vs : List Value) (s : Tables) (q : List Marked) (z : Module) → Moves (aliased_by n gs x vs s) q z → Completes (g.Alias n ∷ gs) (v.Pattern x ∷ vs) s (symbol w.Equals ∷ q) z
 alias_from n gs (p.Var y) vs s q z h = inr (y, refl, (q, refl, h))
 alias_from n gs _ vs s q z h = absurd h
 
-alias_on : (n : ℕ) (gs : List Goal) (vs : List Value) (s : Tables) (q : List Marked) (z : Module) → Moves (with_top (top_pattern vs) (λ x ws. aliased_by n gs x ws s)) q z → Completes (g.Alias n ∷ gs) vs s (word w.Equals ∷ q) z
+alias_on : (n : ℕ) (gs : List Goal) (vs : List Value) (s : Tables) (q : List Marked) (z : Module) → Moves (with_top (top_pattern vs) (λ x ws. aliased_by n gs x ws s)) q z → Completes (g.Alias n ∷ gs) vs s (symbol w.Equals ∷ q) z
 alias_on n gs (v.Pattern x ∷ vs) s q z h = alias_from n gs x vs s q z h
 alias_on n gs _ s q z h = absurd h
 
 alias_back : (n : ℕ) (gs : List Goal) (vs : List Value) (s : Tables) (token : Token) (q : List Marked) (z : Module) → Moves (goal_moved (g.Alias n) gs vs s token) q z → Completes (g.Alias n ∷ gs) vs s (plain token ∷ q) z
-alias_back n gs vs s token q z h = by (if_back (is_word w.Equals token) _ _ q z h)
+alias_back n gs vs s token q z h = by (if_back (is_symbol w.Equals token) _ _ q z h)
   where
-    by : ((is_word w.Equals token ≡ true) × Moves (with_top (top_pattern vs) (λ x ws. aliased_by n gs x ws s)) q z) ⊎ ((is_word w.Equals token ≡ false) × ⊥) → Completes (g.Alias n ∷ gs) vs s (plain token ∷ q) z
-    by (inl (is, r)) = at_word (g.Alias n ∷ gs) vs s w.Equals token q z (word_at w.Equals token is) (alias_on n gs vs s q z r)
+    by : ((is_symbol w.Equals token ≡ true) × Moves (with_top (top_pattern vs) (λ x ws. aliased_by n gs x ws s)) q z) ⊎ ((is_symbol w.Equals token ≡ false) × ⊥) → Completes (g.Alias n ∷ gs) vs s (plain token ∷ q) z
+    by (inl (is, r)) = at_symbol (g.Alias n ∷ gs) vs s w.Equals token q z (symbol_at w.Equals token is) (alias_on n gs vs s q z r)
     by (inr (is, r)) = absurd r
 
 -- ---- clauses
 
-clauses_none : (n : ℕ) (c : Closer) (gs : List Goal) (vs : List Value) (s : Tables) (q : List Marked) (z : Module) → Completes gs vs s q z → Completes (g.Clauses n c ∷ gs) vs s (word (closing c) ∷ q) z
+clauses_none : (n : ℕ) (c : Closer) (gs : List Goal) (vs : List Value) (s : Tables) (q : List Marked) (z : Module) → Completes gs vs s q z → Completes (g.Clauses n c ∷ gs) vs s (symbol (closing c) ∷ q) z
 clauses_none n c gs (v.Clauses bs ∷ vs) s q z h = ([], s, q, exprs.no_clauses, subst (λ (k : List Clause). Completes gs (v.Clauses k ∷ vs) s q z) (sym (append-nil bs)) h)
 clauses_none n c gs [] s q z h = (q, refl, h)
 clauses_none n c gs (x ∷ vs) s q z h = (q, refl, h)
@@ -77,26 +77,26 @@ clauses_from n c gs _ s ms z h = absurd h
 
 clauses_back : (n : ℕ) (c : Closer) (gs : List Goal) (vs : List Value) (s : Tables) (token : Token) (q : List Marked) (z : Module) → Moves (goal_moved (g.Clauses n c) gs vs s token) q z
     → Completes (g.Clauses n c ∷ gs) vs s (mark (g.Clauses n c) token ∷ q) z
-clauses_back n c gs vs s token q z h = by (if_back (is_word (closing c) token) _ _ q z h)
+clauses_back n c gs vs s token q z h = by (if_back (is_symbol (closing c) token) _ _ q z h)
   where
-    by : ((is_word (closing c) token ≡ true) × Completes gs vs s q z) ⊎ ((is_word (closing c) token ≡ false) × Moves (clause_begun n false (g.Clauses n c ∷ gs) vs s token) q z)
+    by : ((is_symbol (closing c) token ≡ true) × Completes gs vs s q z) ⊎ ((is_symbol (closing c) token ≡ false) × Moves (clause_begun n false (g.Clauses n c ∷ gs) vs s token) q z)
         → Completes (g.Clauses n c ∷ gs) vs s (mark (g.Clauses n c) token ∷ q) z
-    by (inl (is, r)) = rw is (at_word (g.Clauses n c ∷ gs) vs s (closing c) token q z (word_at (closing c) token is) (clauses_none n c gs vs s q z r))
+    by (inl (is, r)) = rw is (at_symbol (g.Clauses n c ∷ gs) vs s (closing c) token q z (symbol_at (closing c) token is) (clauses_none n c gs vs s q z r))
     by (inr (is, r)) = rw is (clauses_from n c gs vs s (clause_mark n token ∷ q) z (clause_back n false (g.Clauses n c ∷ gs) vs s token q z r))
 
 rest_on : (n : ℕ) (inner : Bool) (gs : List Goal) (vs : List Value) (s : Tables) (q : List Marked) (z : Module)
-    → Moves (with_top (top_pattern vs) (λ x ws. Some (state (clause_rest n gs) (v.Patterns (x ∷ []) ∷ ws) s))) q z → Completes (g.ClauseRest n inner ∷ gs) vs s (word w.When ∷ q) z
+    → Moves (with_top (top_pattern vs) (λ x ws. Some (state (clause_rest n gs) (v.Patterns (x ∷ []) ∷ ws) s))) q z → Completes (g.ClauseRest n inner ∷ gs) vs s (symbol w.When ∷ q) z
 rest_on n false gs (v.Pattern x ∷ vs) s q z h = (q, refl, h)
 rest_on n true gs (v.Pattern x ∷ vs) s q z h = inr (q, refl, h)
 rest_on n inner gs _ s q z h = absurd h
 
 rest_back : (n : ℕ) (inner : Bool) (gs : List Goal) (vs : List Value) (s : Tables) (token : Token) (q : List Marked) (z : Module) → Moves (goal_moved (g.ClauseRest n inner) gs vs s token) q z
     → Completes (g.ClauseRest n inner ∷ gs) vs s (plain token ∷ q) z
-rest_back n inner gs vs s token q z h = by (if_back (is_word w.When token) _ _ q z h)
+rest_back n inner gs vs s token q z h = by (if_back (is_symbol w.When token) _ _ q z h)
   where
-    by : ((is_word w.When token ≡ true) × Moves (with_top (top_pattern vs) (λ x ws. Some (state (clause_rest n gs) (v.Patterns (x ∷ []) ∷ ws) s))) q z) ⊎ ((is_word w.When token ≡ false) × ⊥)
+    by : ((is_symbol w.When token ≡ true) × Moves (with_top (top_pattern vs) (λ x ws. Some (state (clause_rest n gs) (v.Patterns (x ∷ []) ∷ ws) s))) q z) ⊎ ((is_symbol w.When token ≡ false) × ⊥)
         → Completes (g.ClauseRest n inner ∷ gs) vs s (plain token ∷ q) z
-    by (inl (is, r)) = at_word (g.ClauseRest n inner ∷ gs) vs s w.When token q z (word_at w.When token is) (rest_on n inner gs vs s q z r)
+    by (inl (is, r)) = at_symbol (g.ClauseRest n inner ∷ gs) vs s w.When token q z (symbol_at w.When token is) (rest_on n inner gs vs s q z r)
     by (inr (is, r)) = absurd r
 
 behind_note_back : (n : ℕ) (inner : Bool) (gs : List Goal) (vs : List Value) (s : Tables) (ms r : List Marked) (z : Module) → IsNote n ms r → Completes (behind_note n inner gs vs) vs s r z
@@ -132,13 +132,13 @@ info_export_back gs es vs s digits q z h = by (leb_tells (value digits) 1)
 
 -- ---- definitions
 
-functions_none : (n : ℕ) (gs : List Goal) (vs : List Value) (s : Tables) (q : List Marked) (z : Module) → Completes gs vs s q z → Completes (g.Functions n ∷ gs) vs s (word w.In ∷ q) z
+functions_none : (n : ℕ) (gs : List Goal) (vs : List Value) (s : Tables) (q : List Marked) (z : Module) → Completes gs vs s q z → Completes (g.Functions n ∷ gs) vs s (symbol w.In ∷ q) z
 functions_none n gs (v.Functions es ∷ vs) s q z h = ([], s, q, exprs.no_functions, subst (λ (k : List Function). Completes gs (v.Functions k ∷ vs) s q z) (sym (append-nil es)) h)
 functions_none n gs [] s q z h = (q, refl, h)
 functions_none n gs (x ∷ vs) s q z h = (q, refl, h)
 
 functions_from : (n : ℕ) (gs : List Goal) (vs : List Value) (s : Tables) (ms : List Marked) (z : Module)
-    → Completes (g.FunctionName n ∷ g.Word w.Equals ∷ g.FunctionBody n ∷ g.Build f.Function ∷ g.Functions n ∷ gs) vs s ms z → Completes (g.Functions n ∷ gs) vs s ms z
+    → Completes (g.FunctionName n ∷ g.Symbol w.Equals ∷ g.FunctionBody n ∷ g.Build f.Function ∷ g.Functions n ∷ gs) vs s ms z → Completes (g.Functions n ∷ gs) vs s ms z
 functions_from n gs (v.Functions es ∷ vs) s ms z (text, digits, q, d, (r, is, (xs, x, u, o, body, (fs, i, k, more, h)))) = (
   exprs.function (named_by (atom_number s text) digits) xs x ∷ fs,
   i,
@@ -150,21 +150,21 @@ functions_from n gs _ s ms z (text, digits, q, d, (r, is, (xs, x, u, o, body, h)
 
 functions_back : (n : ℕ) (gs : List Goal) (vs : List Value) (s : Tables) (token : Token) (q : List Marked) (z : Module) → Moves (goal_moved (g.Functions n) gs vs s token) q z
     → Completes (g.Functions n ∷ gs) vs s (annotation_mark n token ∷ q) z
-functions_back n gs vs s token q z h = by (if_back (is_word w.In token) _ _ q z h)
+functions_back n gs vs s token q z h = by (if_back (is_symbol w.In token) _ _ q z h)
   where
-    by : ((is_word w.In token ≡ true) × Completes gs vs s q z)
-        ⊎ ((is_word w.In token ≡ false) × Moves (function_begun n (g.Word w.Equals ∷ g.FunctionBody n ∷ g.Build f.Function ∷ g.Functions n ∷ gs) vs s token) q z)
+    by : ((is_symbol w.In token ≡ true) × Completes gs vs s q z)
+        ⊎ ((is_symbol w.In token ≡ false) × Moves (function_begun n (g.Symbol w.Equals ∷ g.FunctionBody n ∷ g.Build f.Function ∷ g.Functions n ∷ gs) vs s token) q z)
         → Completes (g.Functions n ∷ gs) vs s (annotation_mark n token ∷ q) z
-    by (inl (is, r)) = subst (λ (o : Token). Completes (g.Functions n ∷ gs) vs s (annotation_mark n o ∷ q) z) (sym (word_at w.In token is)) (functions_none n gs vs s q z r)
-    by (inr (is, r)) = functions_from n gs vs s (annotation_mark n token ∷ q) z (function_name_back n (g.Word w.Equals ∷ g.FunctionBody n ∷ g.Build f.Function ∷ g.Functions n ∷ gs) vs s token q z r)
+    by (inl (is, r)) = subst (λ (o : Token). Completes (g.Functions n ∷ gs) vs s (annotation_mark n o ∷ q) z) (sym (symbol_at w.In token is)) (functions_none n gs vs s q z r)
+    by (inr (is, r)) = functions_from n gs vs s (annotation_mark n token ∷ q) z (function_name_back n (g.Symbol w.Equals ∷ g.FunctionBody n ∷ g.Build f.Function ∷ g.Functions n ∷ gs) vs s token q z r)
 
-definitions_none : (n : ℕ) (gs : List Goal) (vs : List Value) (s : Tables) (q : List Marked) (z : Module) → Completes gs vs s q z → Completes (g.Definitions n ∷ gs) vs s (word w.End ∷ q) z
+definitions_none : (n : ℕ) (gs : List Goal) (vs : List Value) (s : Tables) (q : List Marked) (z : Module) → Completes gs vs s q z → Completes (g.Definitions n ∷ gs) vs s (symbol w.End ∷ q) z
 definitions_none n gs (v.Functions es ∷ vs) s q z h = ([], s, q, mods.no_definitions, subst (λ (k : List Function). Completes gs (v.Functions k ∷ vs) s q z) (sym (append-nil es)) h)
 definitions_none n gs [] s q z h = (q, refl, h)
 definitions_none n gs (x ∷ vs) s q z h = (q, refl, h)
 
 definitions_from : (n : ℕ) (gs : List Goal) (vs : List Value) (s : Tables) (ms : List Marked) (z : Module)
-    → Completes (g.DefinitionName n ∷ g.Word w.Equals ∷ g.FunctionBody n ∷ g.Build f.Definition ∷ g.Definitions n ∷ gs) vs s ms z → Completes (g.Definitions n ∷ gs) vs s ms z
+    → Completes (g.DefinitionName n ∷ g.Symbol w.Equals ∷ g.FunctionBody n ∷ g.Build f.Definition ∷ g.Definitions n ∷ gs) vs s ms z → Completes (g.Definitions n ∷ gs) vs s ms z
 definitions_from n gs (v.Functions es ∷ vs) s ms z (text, digits, q, d, inl (never, (r, is, (xs, x, u, o, body, (fs, i, k, more, h))))) = (
   exprs.function (named_by (atom_number s text) digits) xs x ∷ fs,
   i,
@@ -179,13 +179,13 @@ definitions_from n gs _ s ms z (text, digits, q, d, inr (dropped, (r, is, (xs, x
 
 definitions_back : (n : ℕ) (gs : List Goal) (vs : List Value) (s : Tables) (token : Token) (q : List Marked) (z : Module) → Moves (goal_moved (g.Definitions n) gs vs s token) q z
     → Completes (g.Definitions n ∷ gs) vs s (annotation_mark n token ∷ q) z
-definitions_back n gs vs s token q z h = by (if_back (is_word w.End token) _ _ q z h)
+definitions_back n gs vs s token q z h = by (if_back (is_symbol w.End token) _ _ q z h)
   where
-    by : ((is_word w.End token ≡ true) × Completes gs vs s q z)
-        ⊎ ((is_word w.End token ≡ false) × Moves (definition_begun n (g.Word w.Equals ∷ g.FunctionBody n ∷ g.Build f.Definition ∷ g.Definitions n ∷ gs) vs s token) q z)
+    by : ((is_symbol w.End token ≡ true) × Completes gs vs s q z)
+        ⊎ ((is_symbol w.End token ≡ false) × Moves (definition_begun n (g.Symbol w.Equals ∷ g.FunctionBody n ∷ g.Build f.Definition ∷ g.Definitions n ∷ gs) vs s token) q z)
         → Completes (g.Definitions n ∷ gs) vs s (annotation_mark n token ∷ q) z
-    by (inl (is, r)) = subst (λ (o : Token). Completes (g.Definitions n ∷ gs) vs s (annotation_mark n o ∷ q) z) (sym (word_at w.End token is)) (definitions_none n gs vs s q z r)
-    by (inr (is, r)) = definitions_from n gs vs s (annotation_mark n token ∷ q) z (definition_name_back n (g.Word w.Equals ∷ g.FunctionBody n ∷ g.Build f.Definition ∷ g.Definitions n ∷ gs) vs s token q z r)
+    by (inl (is, r)) = subst (λ (o : Token). Completes (g.Definitions n ∷ gs) vs s (annotation_mark n o ∷ q) z) (sym (symbol_at w.End token is)) (definitions_none n gs vs s q z r)
+    by (inr (is, r)) = definitions_from n gs vs s (annotation_mark n token ∷ q) z (definition_name_back n (g.Symbol w.Equals ∷ g.FunctionBody n ∷ g.Build f.Definition ∷ g.Definitions n ∷ gs) vs s token q z r)
 
 no_names : {A : Type 0} (digits : List ℕ) → ((leb (value digits) 1 ≡ true) × ⊥) ⊎ ((leb (value digits) 1 ≡ false) × ⊥) → A
 no_names digits (inl (is, r)) = absurd r
@@ -194,7 +194,7 @@ no_names digits (inr (is, r)) = absurd r
 -- ---- every goal
 
 pub goal_back : (goal : Goal) (gs : List Goal) (vs : List Value) (s : Tables) (token : Token) (q : List Marked) (z : Module) → Moves (goal_moved goal gs vs s token) q z → Completes (goal ∷ gs) vs s (mark goal token ∷ q) z
-goal_back (g.Word k) gs vs s token q z h = let r = on_back k token _ q z h in at_word (g.Word k ∷ gs) vs s k token q z r.0 (q, refl, r.1)
+goal_back (g.Symbol k) gs vs s token q z h = let r = on_back k token _ q z h in at_symbol (g.Symbol k ∷ gs) vs s k token q z r.0 (q, refl, r.1)
 goal_back (g.Part k n) gs vs s token q z h = part_back k n gs vs s token q z h
 goal_back (g.Parts k n c) gs vs s token q z h = parts_back k n c gs vs s token q z h
 goal_back (g.MoreParts k n c) gs vs s token q z h = more_back k n c gs vs s token q z h

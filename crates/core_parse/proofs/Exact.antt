@@ -2,8 +2,8 @@
 use Rattle.std.proofs.Common.{◌≡◌, ℕ, suc, ◌+◌, ◌≤◌, ◌<◌, ◌^◌, leb, ltb, Bool, true, false, cond, List, [], ◌∷◌, Option, Some, None, Result, Ok, Err, ◌⊎◌, inl, inr, refl, sym, ap, subst, ◌∙◌, arith}
 use Rattle.std.proofs.lemmas.Bool.{ltb-true, lt-ltb, leb-true, le-leb}
 use Rattle.std.proofs.lemmas.Bool.Decides.{leb_tells}
-use Rattle.hy_core.specs.Marks.{Marked, at, constant, plain, word, arity, value, number}
-use Rattle.hy_core.specs.declared.token.Word.TheVariants as w
+use Rattle.hy_core.specs.Marks.{Marked, at, constant, plain, symbol, arity, value, number}
+use Rattle.hy_core.specs.declared.token.Symbol.TheVariants as w
 use Rattle.hy_core.specs.declared.token.Sign.{Sign}
 use Rattle.hy_core.specs.declared.token.Sign.TheVariants as sign
 use Rattle.hy_core.specs.declared.token.Token.{Token}
@@ -18,7 +18,7 @@ use Rattle.core_parse.specs.declared.state.Value.{Value}
 use Rattle.core_parse.specs.declared.state.State.{State}
 use Rattle.hy_core.specs.Marks.{Role, IsShallow, Fits as IsFitting, IsSound, AreSound, tokens_of}
 use Rattle.hy_core.specs.Marks as marks
-use Rattle.core_parse.specs.Machine.{state, is_word, word_in, closing, fits, part_mark, mark, goal_moved, settled, checked, taken_from, stepped, finished, finished_from, ended, ended_at, goes_on, run}
+use Rattle.core_parse.specs.code.Pushdown.{state, is_symbol, symbol_in, closing, fits, part_mark, mark, goal_moved, settled, checked, taken_from, stepped, finished, finished_from, ended, ended_at, goes_on, run}
 use Rattle.hy_terms.proofs.RangeLemmas.{in_range_is, is_in_range_of}
 use Rattle.core_parse.proofs.Meaning.{Completes}
 use Rattle.core_parse.proofs.Forth.{Moves}
@@ -108,7 +108,7 @@ part_mark_token : (o : Part) (n : ℕ) (token : Token) → (part_mark o n token)
 part_mark_token part.Expr n token = refl
 part_mark_token part.Pattern n token = refl
 part_mark_token part.Constant n token = refl
-part_mark_token _ n (t.Word w.Open) = refl
+part_mark_token _ n (t.Symbol w.Open) = refl
 part_mark_token _ n token = refl
 
 either_mark : (b : Bool) (x y : Marked) (token : Token) → x.token ≡ token → y.token ≡ token → (cond b x y).token ≡ token
@@ -116,24 +116,24 @@ either_mark true x y token h i = h
 either_mark false x y token h i = i
 
 clause_mark_token : (n : ℕ) (token : Token) → (mark (g.Clause n false) token).token ≡ token
-clause_mark_token n (t.Word w.Less) = refl
+clause_mark_token n (t.Symbol w.Less) = refl
 clause_mark_token n token = refl
 
 name_mark_token : (n : ℕ) (token : Token) → (mark (g.Key n) token).token ≡ token
-name_mark_token n (t.Word w.Open) = refl
+name_mark_token n (t.Symbol w.Open) = refl
 name_mark_token n token = refl
 
 value_mark_token : (n : ℕ) (token : Token) → (mark (g.AttributeValue n) token).token ≡ token
-value_mark_token n (t.Word w.Open) = refl
+value_mark_token n (t.Symbol w.Open) = refl
 value_mark_token n token = refl
 
 mark_token : (goal : Goal) (token : Token) → (mark goal token).token ≡ token
 mark_token (g.Part o n) token = part_mark_token o n token
-mark_token (g.Parts o n c) token = either_mark (is_word (closing c) token) _ _ token refl (part_mark_token o n token)
-mark_token (g.Heads o n) token = either_mark (is_word w.CloseList token) _ _ token refl (part_mark_token o (n + 1) token)
-mark_token (g.Tail o n) token = either_mark (is_word w.OpenList token) _ _ token (part_mark_token o n token) (part_mark_token o (n + 1) token)
+mark_token (g.Parts o n c) token = either_mark (is_symbol (closing c) token) _ _ token refl (part_mark_token o n token)
+mark_token (g.Heads o n) token = either_mark (is_symbol w.CloseList token) _ _ token refl (part_mark_token o (n + 1) token)
+mark_token (g.Tail o n) token = either_mark (is_symbol w.OpenList token) _ _ token (part_mark_token o n token) (part_mark_token o (n + 1) token)
 mark_token (g.Bindings n) token = name_mark_token n token
-mark_token (g.Clauses n c) token = either_mark (is_word (closing c) token) _ _ token refl (clause_mark_token n token)
+mark_token (g.Clauses n c) token = either_mark (is_symbol (closing c) token) _ _ token refl (clause_mark_token n token)
 mark_token (g.Clause n inner) token = clause_mark_token n token
 mark_token (g.Key n) token = name_mark_token n token
 mark_token (g.AttributeValue n) token = value_mark_token n token
@@ -152,7 +152,7 @@ pub data View (r : State) (token : Token) : Type 0 where
   stuck : stepped r token ≡ Err k.Unexpected → View r token
   moves : (m : Marked) (next : State) → m.token ≡ token → stepped r token ≡ checked m (Some next) → ((q : List Marked) (z : Module) → Lang next q z → Lang r (m ∷ q) z) → FitsIn next → View r token
 
-view_taken : (r : State) (token : Token) (goal : Goal) (gs : List Goal) (vs : List Value) (s : Tables) → settled r.goals r.values r.tables (word_in token) ≡ Some (state (goal ∷ gs) vs s)
+view_taken : (r : State) (token : Token) (goal : Goal) (gs : List Goal) (vs : List Value) (s : Tables) → settled r.goals r.values r.tables (symbol_in token) ≡ Some (state (goal ∷ gs) vs s)
     → (o : Option State) → goal_moved goal gs vs s token ≡ o → FitsState o → View r token
 view_taken r token goal gs vs s is None eq fit = stuck (ap (λ (o : Option State). taken_from o token) is ∙ ap (checked (mark goal token)) eq)
 view_taken r token goal gs vs s is (Some next) eq fit =
@@ -161,19 +161,19 @@ view_taken r token goal gs vs s is (Some next) eq fit =
     back : (q : List Marked) (z : Module) → Lang next q z → Lang r (mark goal token ∷ q) z
     back q z h =
         let after : Moves (goal_moved goal gs vs s token) q z = subst (λ (o : Option State). Moves o q z) (sym eq) h in
-        let here : settled r.goals r.values r.tables (word_in (mark goal token).token) ≡ Some (state (goal ∷ gs) vs s) = subst (λ (o : Token). settled r.goals r.values r.tables (word_in o) ≡ Some (state (goal ∷ gs) vs s)) (sym (mark_token goal token)) is in
+        let here : settled r.goals r.values r.tables (symbol_in (mark goal token).token) ≡ Some (state (goal ∷ gs) vs s) = subst (λ (o : Token). settled r.goals r.values r.tables (symbol_in o) ≡ Some (state (goal ∷ gs) vs s)) (sym (mark_token goal token)) is in
         settle_back r.goals r.values r.tables (mark goal token ∷ q) z (state (goal ∷ gs) vs s) here (goal_back goal gs vs s token q z after)
 
-view_rest : (r : State) (token : Token) (o : Option State) → settled r.goals r.values r.tables (word_in token) ≡ o → FitsSome o → View r token
+view_rest : (r : State) (token : Token) (o : Option State) → settled r.goals r.values r.tables (symbol_in token) ≡ o → FitsSome o → View r token
 view_rest r token None is fit = absurd fit
 view_rest r token (Some rest) is fit = at rest.goals rest.values rest.tables is fit
   where
-    at : (gs : List Goal) (vs : List Value) (s : Tables) → settled r.goals r.values r.tables (word_in token) ≡ Some (state gs vs s) → FitsOrDone gs vs → View r token
+    at : (gs : List Goal) (vs : List Value) (s : Tables) → settled r.goals r.values r.tables (symbol_in token) ≡ Some (state gs vs s) → FitsOrDone gs vs → View r token
     at [] vs s is fit = stuck (ap (λ (o : Option State). taken_from o token) is)
     at (goal ∷ gs) vs s is fit = view_taken r token goal gs vs s is (goal_moved goal gs vs s token) refl (goal_fits goal gs vs s token fit)
 
 pub view : (r : State) (token : Token) → FitsIn r → View r token
-view r token fit = view_rest r token (settled r.goals r.values r.tables (word_in token)) refl (settle_fits r.goals r.values r.tables (word_in token) fit)
+view r token fit = view_rest r token (settled r.goals r.values r.tables (symbol_in token)) refl (settle_fits r.goals r.values r.tables (symbol_in token) fit)
 
 -- the step that the grammar has next, where its token isn't wrong
 pub record Step (r : State) (token : Token) (q : List Marked) (z : Module) : Type 0 where

@@ -1,8 +1,8 @@
 -- Values fit the goals: whatever is read next, each tree finds its parts. So each state that is reached can be completed.
 use Rattle.std.proofs.Common.{◌≡◌, ℕ, ◌+◌, leb, Bool, true, false, cond, List, [], ◌∷◌, Option, Some, None, refl}
 use Rattle.hy_core.specs.Marks.{value}
-use Rattle.hy_core.specs.declared.token.Word.{Word}
-use Rattle.hy_core.specs.declared.token.Word.TheVariants as w
+use Rattle.hy_core.specs.declared.token.Symbol.{Symbol}
+use Rattle.hy_core.specs.declared.token.Symbol.TheVariants as w
 use Rattle.hy_core.specs.declared.token.Sign.TheVariants as sign
 use Rattle.hy_core.specs.declared.token.Token.{Token}
 use Rattle.hy_core.specs.declared.token.Token.TheVariants as t
@@ -16,8 +16,8 @@ use Rattle.core_parse.specs.declared.state.Goal.TheVariants as g
 use Rattle.core_parse.specs.declared.state.Value.{Value}
 use Rattle.core_parse.specs.declared.state.Value.TheVariants as v
 use Rattle.core_parse.specs.declared.state.State.{State}
-use Rattle.core_parse.specs.Machine.{closing, on, is_word, is_next, is_info, with_built, part_begun, expr_begun, pattern_begun, constant_begun, variable_begun, export_begun, key_begun, value_begun, primop_begun, function_begun, definition_begun, body_begun, clause_begun, module_begun, aliased_by, goal_moved, settled, finished_from}
-use Rattle.core_parse.specs.Trees.{built}
+use Rattle.core_parse.specs.code.Pushdown.{closing, on, is_symbol, is_next, is_info, with_built, part_begun, expr_begun, pattern_begun, constant_begun, variable_begun, export_begun, key_begun, value_begun, primop_begun, function_begun, definition_begun, body_begun, clause_begun, module_begun, aliased_by, goal_moved, settled, finished_from}
+use Rattle.core_parse.specs.code.Trees.{built}
 use Rattle.hy_core.specs.declared.tree.FunName.{FunName}
 use Rattle.hy_core.specs.declared.tree.Function.{Function}
 use Rattle.hy_core.specs.declared.tree.Clause.{Clause}
@@ -31,7 +31,7 @@ use Rattle.hy_core.specs.declared.tree.Expr.TheVariants as e
 -- what completes the goals needn't begin with =
 abbrev pub Quiet : List Goal → Type 0
 Quiet [] = Unit {0}
-Quiet (g.Word k ∷ gs) = is_word w.Equals (t.Word k) ≡ false
+Quiet (g.Symbol k ∷ gs) = is_symbol w.Equals (t.Symbol k) ≡ false
 Quiet (g.MoreParts k n c ∷ gs) = Unit {0}
 Quiet (g.MoreHeads k n ∷ gs) = Unit {0}
 Quiet (g.Build form ∷ gs) = Quiet gs
@@ -148,10 +148,10 @@ abbrev pub OrDone : List Goal → List Value → Type 0 → Type 0
 OrDone [] vs A = IsDone vs
 OrDone (goal ∷ gs) vs A = A
 
--- the values fit the goals, of which there is one; the last is a word, a note, definitions or a module, so it takes a token
+-- the values fit the goals, of which there is one; the last is a symbol, a note, definitions or a module, so it takes a token
 abbrev pub Fits : List Goal → List Value → Type 0
 Fits [] vs = ⊥
-Fits (g.Word k ∷ gs) vs = OrDone gs vs (Fits gs vs)
+Fits (g.Symbol k ∷ gs) vs = OrDone gs vs (Fits gs vs)
 Fits (g.Part k n ∷ gs) vs = PartFits k gs vs (λ ws. Fits gs ws)
 Fits (g.Parts k n c ∷ gs) vs = PartsFit k vs (λ ws. Fits gs ws)
 Fits (g.MoreParts k n c ∷ gs) vs = MorePartsFit k vs (λ ws. Fits gs ws)
@@ -211,22 +211,22 @@ expr_fits n gs vs s (t.Character byte) h = fits_or gs _ (h _)
 expr_fits n gs vs s (t.Atom text) h = h
 expr_fits n gs vs s (t.Str text) h = fits_or gs _ (h _)
 expr_fits n gs vs s (t.Variable name) h = fits_or gs _ (h _)
-expr_fits n gs vs s (t.Word w.OpenList) h = h
-expr_fits n gs vs s (t.Word w.OpenTuple) h = λ xs o. h (e.Tuple 0 xs)
-expr_fits n gs vs s (t.Word w.Less) h = λ xs o. h (e.Values xs)
-expr_fits n gs vs s (t.Word w.Let) h = λ xs x y o. h (e.Let xs x y)
-expr_fits n gs vs s (t.Word w.Do) h = λ x y o. h (e.Do x y)
-expr_fits n gs vs s (t.Word w.Case) h = λ x o. ((λ cs ds i. h (e.Case x ds)), tt)
-expr_fits n gs vs s (t.Word w.Letrec) h = λ fs x o. h (e.Letrec fs x)
-expr_fits n gs vs s (t.Word w.Apply) h = λ x xs o. h (e.Apply x xs)
-expr_fits n gs vs s (t.Word w.Call) h = λ x y xs o. h (e.Call x y xs)
-expr_fits n gs vs s (t.Word w.Primop) h = λ k xs o. h (e.Primop k xs)
-expr_fits n gs vs s (t.Word w.Receive) h = λ cs x y o. h (e.Receive cs x y)
-expr_fits n gs vs s (t.Word w.Try) h = λ x xs y ys z o. h (e.Try x xs y ys z)
-expr_fits n gs vs s (t.Word w.Catch) h = λ x o. h (e.Catch x)
-expr_fits n gs vs s (t.Word w.Fun) h = λ xs x o. h (e.Fun xs x)
-expr_fits n gs vs s (t.Word w.Open) h = λ x. fits_or gs _ (h x)
-expr_fits n gs vs s (t.Word _) h = tt
+expr_fits n gs vs s (t.Symbol w.OpenList) h = h
+expr_fits n gs vs s (t.Symbol w.OpenTuple) h = λ xs o. h (e.Tuple 0 xs)
+expr_fits n gs vs s (t.Symbol w.Less) h = λ xs o. h (e.Values xs)
+expr_fits n gs vs s (t.Symbol w.Let) h = λ xs x y o. h (e.Let xs x y)
+expr_fits n gs vs s (t.Symbol w.Do) h = λ x y o. h (e.Do x y)
+expr_fits n gs vs s (t.Symbol w.Case) h = λ x o. ((λ cs ds i. h (e.Case x ds)), tt)
+expr_fits n gs vs s (t.Symbol w.Letrec) h = λ fs x o. h (e.Letrec fs x)
+expr_fits n gs vs s (t.Symbol w.Apply) h = λ x xs o. h (e.Apply x xs)
+expr_fits n gs vs s (t.Symbol w.Call) h = λ x y xs o. h (e.Call x y xs)
+expr_fits n gs vs s (t.Symbol w.Primop) h = λ k xs o. h (e.Primop k xs)
+expr_fits n gs vs s (t.Symbol w.Receive) h = λ cs x y o. h (e.Receive cs x y)
+expr_fits n gs vs s (t.Symbol w.Try) h = λ x xs y ys z o. h (e.Try x xs y ys z)
+expr_fits n gs vs s (t.Symbol w.Catch) h = λ x o. h (e.Catch x)
+expr_fits n gs vs s (t.Symbol w.Fun) h = λ xs x o. h (e.Fun xs x)
+expr_fits n gs vs s (t.Symbol w.Open) h = λ x. fits_or gs _ (h x)
+expr_fits n gs vs s (t.Symbol _) h = tt
 
 pattern_fits : (n : ℕ) (gs : List Goal) (vs : List Value) (s : Tables) (token : Token) → Quiet gs → ((x : Pattern) → Fits gs (v.Pattern x ∷ vs)) → FitsState (pattern_begun n gs vs s token)
 pattern_fits n gs vs s (t.Integer sign digits) quiet h = fits_or gs _ (h _)
@@ -234,31 +234,31 @@ pattern_fits n gs vs s (t.Character byte) quiet h = fits_or gs _ (h _)
 pattern_fits n gs vs s (t.Atom text) quiet h = fits_or gs _ (h _)
 pattern_fits n gs vs s (t.Str text) quiet h = fits_or gs _ (h _)
 pattern_fits n gs vs s (t.Variable name) quiet h = (quiet, h)
-pattern_fits n gs vs s (t.Word w.OpenList) quiet h = h
-pattern_fits n gs vs s (t.Word w.OpenTuple) quiet h = λ xs o. h (p.Tuple xs)
-pattern_fits n gs vs s (t.Word w.Open) quiet h = (tt, λ x. (quiet, h))
-pattern_fits n gs vs s (t.Word _) quiet h = tt
+pattern_fits n gs vs s (t.Symbol w.OpenList) quiet h = h
+pattern_fits n gs vs s (t.Symbol w.OpenTuple) quiet h = λ xs o. h (p.Tuple xs)
+pattern_fits n gs vs s (t.Symbol w.Open) quiet h = (tt, λ x. (quiet, h))
+pattern_fits n gs vs s (t.Symbol _) quiet h = tt
 
 constant_fits : (n : ℕ) (gs : List Goal) (vs : List Value) (s : Tables) (token : Token) → Fits gs vs → FitsState (constant_begun n gs vs s token)
-constant_fits n gs vs s (t.Word w.OpenList) h = h
-constant_fits n gs vs s (t.Word w.OpenTuple) h = h
-constant_fits n gs vs s (t.Word _) h = tt
+constant_fits n gs vs s (t.Symbol w.OpenList) h = h
+constant_fits n gs vs s (t.Symbol w.OpenTuple) h = h
+constant_fits n gs vs s (t.Symbol _) h = tt
 constant_fits n gs vs s (t.Variable name) h = tt
 constant_fits n gs vs s _ h = fits_or gs _ h
 
 variable_fits : (n : ℕ) (gs : List Goal) (vs : List Value) (s : Tables) (token : Token) → ((x : ℕ) → Fits gs (v.Variable x ∷ vs)) → FitsState (variable_begun n gs vs s token)
 variable_fits n gs vs s (t.Variable name) h = fits_or gs _ (h _)
-variable_fits n gs vs s (t.Word w.Open) h = λ x. fits_or gs _ (h x)
+variable_fits n gs vs s (t.Symbol w.Open) h = λ x. fits_or gs _ (h x)
 variable_fits n gs vs s _ h = tt
 
 export_fits : (n : ℕ) (gs : List Goal) (es : List FunName) (vs : List Value) (s : Tables) (token : Token) → ((xs : List FunName) → Fits gs (v.Names xs ∷ vs)) → FitsState (export_begun n gs (v.Names es ∷ vs) s token)
 export_fits n gs es vs s (t.Atom text) h = fits_if (is_info text) _ _ h h
-export_fits n gs es vs s (t.Word w.Open) h = λ xs. fits_or gs _ (h xs)
+export_fits n gs es vs s (t.Symbol w.Open) h = λ xs. fits_or gs _ (h xs)
 export_fits n gs es vs s _ h = tt
 
 key_fits : (n : ℕ) (gs : List Goal) (vs : List Value) (s : Tables) (token : Token) → Fits gs vs → FitsState (key_begun n gs vs s token)
 key_fits n gs vs s (t.Atom text) h = fits_or gs _ h
-key_fits n gs vs s (t.Word w.Open) h = fits_or gs _ h
+key_fits n gs vs s (t.Symbol w.Open) h = fits_or gs _ h
 key_fits n gs vs s _ h = tt
 
 part_fits : (k : Part) (n : ℕ) (gs : List Goal) (vs : List Value) (s : Tables) (token : Token) → PartFits k gs vs (λ ws. Fits gs ws) → FitsState (part_begun k n gs vs s token)
@@ -268,80 +268,80 @@ part_fits part.Constant n gs vs s token h = constant_fits n gs vs s token h
 part_fits part.Variable n gs vs s token h = variable_fits n gs vs s token h
 part_fits part.Export n gs (v.Names es ∷ vs) s token h = export_fits n gs es vs s token h
 part_fits part.Export n gs _ s token h = absurd h
-part_fits part.Attribute n gs vs s token h = key_fits n (g.Word w.Equals ∷ g.AttributeValue n ∷ gs) vs s token h
+part_fits part.Attribute n gs vs s token h = key_fits n (g.Symbol w.Equals ∷ g.AttributeValue n ∷ gs) vs s token h
 
 value_fits : (n : ℕ) (gs : List Goal) (vs : List Value) (s : Tables) (token : Token) → Fits gs vs → FitsState (value_begun n gs vs s token)
-value_fits n gs vs s (t.Word w.Open) h = fits_or gs _ h
+value_fits n gs vs s (t.Symbol w.Open) h = fits_or gs _ h
 value_fits n gs vs s token h = constant_fits n gs vs s token h
 
 primop_fits : (n : ℕ) (gs : List Goal) (vs : List Value) (s : Tables) (token : Token) → ((k : ℕ) → Fits gs (v.Atom k ∷ vs)) → FitsState (primop_begun n gs vs s token)
 primop_fits n gs vs s (t.Atom text) h = fits_or gs _ (h _)
-primop_fits n gs vs s (t.Word w.Open) h = λ k. fits_or gs _ (h k)
+primop_fits n gs vs s (t.Symbol w.Open) h = λ k. fits_or gs _ (h k)
 primop_fits n gs vs s _ h = tt
 
 function_fits : (n : ℕ) (gs : List Goal) (vs : List Value) (s : Tables) (token : Token) → ((x : FunName) → Fits gs (v.Name x ∷ vs)) → FitsState (function_begun n gs vs s token)
 function_fits n gs vs s (t.Atom text) h = h
-function_fits n gs vs s (t.Word w.Open) h = λ x. fits_or gs _ (h x)
+function_fits n gs vs s (t.Symbol w.Open) h = λ x. fits_or gs _ (h x)
 function_fits n gs vs s _ h = tt
 
 definition_fits : (n : ℕ) (gs : List Goal) (vs : List Value) (s : Tables) (token : Token) → NameFits vs (λ ws. Fits gs ws) → FitsState (definition_begun n gs vs s token)
 definition_fits n gs vs s (t.Atom text) h = fits_if (is_info text) _ _ h h.0
-definition_fits n gs vs s (t.Word w.Open) h = ((λ x. fits_or gs _ (h.0 x)), (λ before. fits_or gs _ (h.1 before)))
+definition_fits n gs vs s (t.Symbol w.Open) h = ((λ x. fits_or gs _ (h.0 x)), (λ before. fits_or gs _ (h.1 before)))
 definition_fits n gs vs s _ h = tt
 
 body_fits : (n : ℕ) (gs : List Goal) (vs : List Value) (s : Tables) (token : Token) → ((xs : List ℕ) (x : Expr) → Fits gs (v.Expr x ∷ v.Variables xs ∷ vs)) → FitsState (body_begun n gs vs s token)
-body_fits n gs vs s (t.Word w.Fun) h = h
-body_fits n gs vs s (t.Word w.Open) h = λ xs x. fits_or gs _ (h xs x)
+body_fits n gs vs s (t.Symbol w.Fun) h = h
+body_fits n gs vs s (t.Symbol w.Open) h = λ xs x. fits_or gs _ (h xs x)
 body_fits n gs vs s _ h = tt
 
 clause_fits : (n : ℕ) (inner : Bool) (gs : List Goal) (bs : List Clause) (vs : List Value) (s : Tables) (token : Token) → EitherFits inner bs vs (λ ws. Fits gs ws) → FitsState (clause_begun n inner gs (v.Clauses bs ∷ vs) s token)
-clause_fits n inner gs bs vs s (t.Word w.Open) h = (h.0, λ x. h)
-clause_fits n inner gs bs vs s (t.Word w.Less) h = λ xs x y o. h.0 _
+clause_fits n inner gs bs vs s (t.Symbol w.Open) h = (h.0, λ x. h)
+clause_fits n inner gs bs vs s (t.Symbol w.Less) h = λ xs x y o. h.0 _
 clause_fits n inner gs bs vs s token h = pattern_fits n (g.ClauseRest n inner ∷ gs) (v.Clauses bs ∷ vs) s token tt (λ x. h)
 
 module_fits : (n : ℕ) (gs : List Goal) (vs : List Value) (s : Tables) (token : Token) → ((fs : List Function) (es : List FunName) (k : ℕ) → FitsOrDone gs (v.Functions fs ∷ v.Names es ∷ v.Atom k ∷ vs)) → FitsState (module_begun n gs vs s token)
-module_fits n gs vs s (t.Word w.Module) h = λ k es o fs. h fs es k
-module_fits n gs vs s (t.Word w.Open) h = h
+module_fits n gs vs s (t.Symbol w.Module) h = λ k es o fs. h fs es k
+module_fits n gs vs s (t.Symbol w.Open) h = h
 module_fits n gs vs s _ h = tt
 
 -- ---- lists of parts
 
 parts_fit : (k : Part) (n : ℕ) (c : Closer) (gs : List Goal) (vs : List Value) (s : Tables) (token : Token) → PartsFit k vs (λ ws. Fits gs ws) → FitsState (goal_moved (g.Parts k n c) gs vs s token)
-parts_fit part.Expr n c gs vs s token h = fits_if (is_word (closing c) token) _ _ (fits_or gs _ (h [])) (expr_fits n (g.MoreParts part.Expr n c ∷ gs) (v.Exprs [] ∷ vs) s token (λ x. h))
-parts_fit part.Pattern n c gs vs s token h = fits_if (is_word (closing c) token) _ _ (fits_or gs _ (h [])) (pattern_fits n (g.MoreParts part.Pattern n c ∷ gs) (v.Patterns [] ∷ vs) s token tt (λ x. h))
-parts_fit part.Constant n c gs vs s token h = fits_if (is_word (closing c) token) _ _ (fits_or gs _ h) (constant_fits n (g.MoreParts part.Constant n c ∷ gs) vs s token h)
-parts_fit part.Variable n c gs vs s token h = fits_if (is_word (closing c) token) _ _ (fits_or gs _ (h [])) (variable_fits n (g.MoreParts part.Variable n c ∷ gs) (v.Variables [] ∷ vs) s token (λ x. h))
-parts_fit part.Export n c gs vs s token h = fits_if (is_word (closing c) token) _ _ (fits_or gs _ (h [])) (export_fits n (g.MoreParts part.Export n c ∷ gs) [] vs s token (λ x. h))
-parts_fit part.Attribute n c gs vs s token h = fits_if (is_word (closing c) token) _ _ (fits_or gs _ h) (key_fits n (g.Word w.Equals ∷ g.AttributeValue n ∷ g.MoreParts part.Attribute n c ∷ gs) vs s token h)
+parts_fit part.Expr n c gs vs s token h = fits_if (is_symbol (closing c) token) _ _ (fits_or gs _ (h [])) (expr_fits n (g.MoreParts part.Expr n c ∷ gs) (v.Exprs [] ∷ vs) s token (λ x. h))
+parts_fit part.Pattern n c gs vs s token h = fits_if (is_symbol (closing c) token) _ _ (fits_or gs _ (h [])) (pattern_fits n (g.MoreParts part.Pattern n c ∷ gs) (v.Patterns [] ∷ vs) s token tt (λ x. h))
+parts_fit part.Constant n c gs vs s token h = fits_if (is_symbol (closing c) token) _ _ (fits_or gs _ h) (constant_fits n (g.MoreParts part.Constant n c ∷ gs) vs s token h)
+parts_fit part.Variable n c gs vs s token h = fits_if (is_symbol (closing c) token) _ _ (fits_or gs _ (h [])) (variable_fits n (g.MoreParts part.Variable n c ∷ gs) (v.Variables [] ∷ vs) s token (λ x. h))
+parts_fit part.Export n c gs vs s token h = fits_if (is_symbol (closing c) token) _ _ (fits_or gs _ (h [])) (export_fits n (g.MoreParts part.Export n c ∷ gs) [] vs s token (λ x. h))
+parts_fit part.Attribute n c gs vs s token h = fits_if (is_symbol (closing c) token) _ _ (fits_or gs _ h) (key_fits n (g.Symbol w.Equals ∷ g.AttributeValue n ∷ g.MoreParts part.Attribute n c ∷ gs) vs s token h)
 
 more_parts_fit : (k : Part) (n : ℕ) (c : Closer) (gs : List Goal) (vs : List Value) (s : Tables) (token : Token) → MorePartsFit k vs (λ ws. Fits gs ws) → FitsState (goal_moved (g.MoreParts k n c) gs vs s token)
-more_parts_fit part.Expr n c gs (v.Expr x ∷ v.Exprs xs ∷ vs) s token h = fits_if (is_word (closing c) token) _ _ (fits_or gs _ (h _)) (fits_if (is_word w.Comma token) _ _ (λ y. h) tt)
-more_parts_fit part.Pattern n c gs (v.Pattern x ∷ v.Patterns xs ∷ vs) s token h = fits_if (is_word (closing c) token) _ _ (fits_or gs _ (h _)) (fits_if (is_word w.Comma token) _ _ (tt, λ y. h) tt)
-more_parts_fit part.Variable n c gs (v.Variable x ∷ v.Variables xs ∷ vs) s token h = fits_if (is_word (closing c) token) _ _ (fits_or gs _ (h _)) (fits_if (is_word w.Comma token) _ _ (λ y. h) tt)
-more_parts_fit part.Export n c gs (v.Names es ∷ vs) s token h = fits_if (is_word (closing c) token) _ _ (fits_or gs _ (h _)) (fits_if (is_word w.Comma token) _ _ (λ y. h) tt)
-more_parts_fit part.Constant n c gs vs s token h = fits_if (is_word (closing c) token) _ _ (fits_or gs _ h) (fits_if (is_word w.Comma token) _ _ h tt)
-more_parts_fit part.Attribute n c gs vs s token h = fits_if (is_word (closing c) token) _ _ (fits_or gs _ h) (fits_if (is_word w.Comma token) _ _ h tt)
+more_parts_fit part.Expr n c gs (v.Expr x ∷ v.Exprs xs ∷ vs) s token h = fits_if (is_symbol (closing c) token) _ _ (fits_or gs _ (h _)) (fits_if (is_symbol w.Comma token) _ _ (λ y. h) tt)
+more_parts_fit part.Pattern n c gs (v.Pattern x ∷ v.Patterns xs ∷ vs) s token h = fits_if (is_symbol (closing c) token) _ _ (fits_or gs _ (h _)) (fits_if (is_symbol w.Comma token) _ _ (tt, λ y. h) tt)
+more_parts_fit part.Variable n c gs (v.Variable x ∷ v.Variables xs ∷ vs) s token h = fits_if (is_symbol (closing c) token) _ _ (fits_or gs _ (h _)) (fits_if (is_symbol w.Comma token) _ _ (λ y. h) tt)
+more_parts_fit part.Export n c gs (v.Names es ∷ vs) s token h = fits_if (is_symbol (closing c) token) _ _ (fits_or gs _ (h _)) (fits_if (is_symbol w.Comma token) _ _ (λ y. h) tt)
+more_parts_fit part.Constant n c gs vs s token h = fits_if (is_symbol (closing c) token) _ _ (fits_or gs _ h) (fits_if (is_symbol w.Comma token) _ _ h tt)
+more_parts_fit part.Attribute n c gs vs s token h = fits_if (is_symbol (closing c) token) _ _ (fits_or gs _ h) (fits_if (is_symbol w.Comma token) _ _ h tt)
 more_parts_fit _ n c gs _ s token h = absurd h
 
 heads_fit : (k : Part) (n : ℕ) (gs : List Goal) (vs : List Value) (s : Tables) (token : Token) → HeadsFit k vs (λ ws. Fits gs ws) → FitsState (goal_moved (g.Heads k n) gs vs s token)
-heads_fit part.Expr n gs (v.Exprs xs ∷ vs) s token h = fits_if (is_word w.CloseList token) _ _ (fits_or gs _ (h _)) (expr_fits (n + 1) (g.MoreHeads part.Expr n ∷ gs) (v.Exprs xs ∷ vs) s token (λ x. h))
-heads_fit part.Pattern n gs (v.Patterns xs ∷ vs) s token h = fits_if (is_word w.CloseList token) _ _ (fits_or gs _ (h _)) (pattern_fits (n + 1) (g.MoreHeads part.Pattern n ∷ gs) (v.Patterns xs ∷ vs) s token tt (λ x. h))
-heads_fit part.Constant n gs vs s token h = fits_if (is_word w.CloseList token) _ _ (fits_or gs _ h) (constant_fits (n + 1) (g.MoreHeads part.Constant n ∷ gs) vs s token h)
+heads_fit part.Expr n gs (v.Exprs xs ∷ vs) s token h = fits_if (is_symbol w.CloseList token) _ _ (fits_or gs _ (h _)) (expr_fits (n + 1) (g.MoreHeads part.Expr n ∷ gs) (v.Exprs xs ∷ vs) s token (λ x. h))
+heads_fit part.Pattern n gs (v.Patterns xs ∷ vs) s token h = fits_if (is_symbol w.CloseList token) _ _ (fits_or gs _ (h _)) (pattern_fits (n + 1) (g.MoreHeads part.Pattern n ∷ gs) (v.Patterns xs ∷ vs) s token tt (λ x. h))
+heads_fit part.Constant n gs vs s token h = fits_if (is_symbol w.CloseList token) _ _ (fits_or gs _ h) (constant_fits (n + 1) (g.MoreHeads part.Constant n ∷ gs) vs s token h)
 heads_fit _ n gs _ s token h = absurd h
 
 more_heads_fit : (k : Part) (n : ℕ) (gs : List Goal) (vs : List Value) (s : Tables) (token : Token) → MoreHeadsFit k vs (λ ws. Fits gs ws) → FitsState (goal_moved (g.MoreHeads k n) gs vs s token)
 more_heads_fit part.Expr n gs (v.Expr x ∷ v.Exprs xs ∷ vs) s token h =
-    fits_if (is_word w.CloseList token) _ _ (fits_or gs _ (h _)) (fits_if (is_word w.Comma token) _ _ (λ y. h) (fits_if (is_word w.Bar token) _ _ h tt))
+    fits_if (is_symbol w.CloseList token) _ _ (fits_or gs _ (h _)) (fits_if (is_symbol w.Comma token) _ _ (λ y. h) (fits_if (is_symbol w.Bar token) _ _ h tt))
 more_heads_fit part.Pattern n gs (v.Pattern x ∷ v.Patterns xs ∷ vs) s token h =
-    fits_if (is_word w.CloseList token) _ _ (fits_or gs _ (h _)) (fits_if (is_word w.Comma token) _ _ (tt, λ y. h) (fits_if (is_word w.Bar token) _ _ h tt))
-more_heads_fit part.Constant n gs vs s token h = fits_if (is_word w.CloseList token) _ _ (fits_or gs _ h) (fits_if (is_word w.Comma token) _ _ h (fits_if (is_word w.Bar token) _ _ h tt))
+    fits_if (is_symbol w.CloseList token) _ _ (fits_or gs _ (h _)) (fits_if (is_symbol w.Comma token) _ _ (tt, λ y. h) (fits_if (is_symbol w.Bar token) _ _ h tt))
+more_heads_fit part.Constant n gs vs s token h = fits_if (is_symbol w.CloseList token) _ _ (fits_or gs _ h) (fits_if (is_symbol w.Comma token) _ _ h (fits_if (is_symbol w.Bar token) _ _ h tt))
 more_heads_fit _ n gs _ s token h = absurd h
 
 tail_fits : (k : Part) (n : ℕ) (gs : List Goal) (vs : List Value) (s : Tables) (token : Token) → HeadsFit k vs (λ ws. Fits gs ws) → FitsState (goal_moved (g.Tail k n) gs vs s token)
-tail_fits part.Expr n gs (v.Exprs xs ∷ vs) s token h = fits_if (is_word w.OpenList token) _ _ (λ x. fits_or gs _ (h x)) (expr_fits (n + 1) (g.Word w.CloseList ∷ g.Build (f.Join part.Expr) ∷ gs) (v.Exprs xs ∷ vs) s token (λ x o. h _))
+tail_fits part.Expr n gs (v.Exprs xs ∷ vs) s token h = fits_if (is_symbol w.OpenList token) _ _ (λ x. fits_or gs _ (h x)) (expr_fits (n + 1) (g.Symbol w.CloseList ∷ g.Build (f.Join part.Expr) ∷ gs) (v.Exprs xs ∷ vs) s token (λ x o. h _))
 tail_fits part.Pattern n gs (v.Patterns xs ∷ vs) s token h =
-    fits_if (is_word w.OpenList token) _ _ (λ x. fits_or gs _ (h x)) (pattern_fits (n + 1) (g.Word w.CloseList ∷ g.Build (f.Join part.Pattern) ∷ gs) (v.Patterns xs ∷ vs) s token refl (λ x o. h _))
-tail_fits part.Constant n gs vs s token h = fits_if (is_word w.OpenList token) _ _ (fits_or gs _ h) (constant_fits (n + 1) (g.Word w.CloseList ∷ g.Build (f.Join part.Constant) ∷ gs) vs s token (λ o. h))
+    fits_if (is_symbol w.OpenList token) _ _ (λ x. fits_or gs _ (h x)) (pattern_fits (n + 1) (g.Symbol w.CloseList ∷ g.Build (f.Join part.Pattern) ∷ gs) (v.Patterns xs ∷ vs) s token refl (λ x o. h _))
+tail_fits part.Constant n gs vs s token h = fits_if (is_symbol w.OpenList token) _ _ (fits_or gs _ h) (constant_fits (n + 1) (g.Symbol w.CloseList ∷ g.Build (f.Join part.Constant) ∷ gs) vs s token (λ o. h))
 tail_fits _ n gs _ s token h = absurd h
 
 -- ---- every goal
@@ -351,34 +351,34 @@ aliased_fits n gs (p.Var y) vs s quiet h = (quiet, λ x o. h (p.Alias y x))
 aliased_fits n gs _ vs s quiet h = tt
 
 clause_note_fits : (n : ℕ) (inner : Bool) (gs : List Goal) (vs : List Value) (s : Tables) (token : Token) → ClauseNoteFits inner vs (λ ws. Fits gs ws) → FitsState (goal_moved (g.ClauseNote n inner) gs vs s token)
-clause_note_fits n inner gs (v.Pattern x ∷ v.Clauses bs ∷ vs) s token h = fits_on (is_word w.NoteBar token) _ (tt, λ y. h)
-clause_note_fits n inner gs (v.Clauses bs ∷ vs) s token h = fits_on (is_word w.NoteBar token) _ (fits_or gs _ h)
+clause_note_fits n inner gs (v.Pattern x ∷ v.Clauses bs ∷ vs) s token h = fits_on (is_symbol w.NoteBar token) _ (tt, λ y. h)
+clause_note_fits n inner gs (v.Clauses bs ∷ vs) s token h = fits_on (is_symbol w.NoteBar token) _ (fits_or gs _ h)
 clause_note_fits n inner gs _ s token h = absurd h
 
 pub goal_fits : (goal : Goal) (gs : List Goal) (vs : List Value) (s : Tables) (token : Token) → Fits (goal ∷ gs) vs → FitsState (goal_moved goal gs vs s token)
-goal_fits (g.Word k) gs vs s token h = fits_on (is_word k token) _ h
+goal_fits (g.Symbol k) gs vs s token h = fits_on (is_symbol k token) _ h
 goal_fits (g.Part k n) gs vs s token h = part_fits k n gs vs s token h
 goal_fits (g.Parts k n c) gs vs s token h = parts_fit k n c gs vs s token h
 goal_fits (g.MoreParts k n c) gs vs s token h = more_parts_fit k n c gs vs s token h
 goal_fits (g.Heads k n) gs vs s token h = heads_fit k n gs vs s token h
 goal_fits (g.MoreHeads k n) gs vs s token h = more_heads_fit k n gs vs s token h
 goal_fits (g.Tail k n) gs vs s token h = tail_fits k n gs vs s token h
-goal_fits g.NameOrAtom gs (v.Atom a ∷ vs) s token h = fits_on (is_word w.Slash token) _ h
+goal_fits g.NameOrAtom gs (v.Atom a ∷ vs) s token h = fits_on (is_symbol w.Slash token) _ h
 goal_fits g.NameOrAtom gs _ s token h = absurd h
 goal_fits g.Arity gs (v.Atom a ∷ vs) s (t.Integer sign.Absent digits) h = fits_or gs _ (h _)
 goal_fits g.Arity gs (v.Atom a ∷ vs) s _ h = tt
 goal_fits g.Arity gs _ s token h = absurd h
-goal_fits (g.Alias n) gs (v.Pattern x ∷ vs) s token h = fits_if (is_word w.Equals token) _ _ (aliased_fits n gs x vs s h.0 h.1) tt
+goal_fits (g.Alias n) gs (v.Pattern x ∷ vs) s token h = fits_if (is_symbol w.Equals token) _ _ (aliased_fits n gs x vs s h.0 h.1) tt
 goal_fits (g.Alias n) gs _ s token h = absurd h
-goal_fits (g.Bindings n) gs vs s token h = fits_if (is_word w.Less token) _ _ h (variable_fits n (g.Build f.OneVariable ∷ gs) vs s token (λ x o. h _))
-goal_fits (g.Clauses n c) gs (v.Clauses bs ∷ vs) s token h = fits_if (is_word (closing c) token) _ _ (fits_or gs _ (h _)) (clause_fits n false (g.Clauses n c ∷ gs) bs vs s token ((λ cs. h), tt))
+goal_fits (g.Bindings n) gs vs s token h = fits_if (is_symbol w.Less token) _ _ h (variable_fits n (g.Build f.OneVariable ∷ gs) vs s token (λ x o. h _))
+goal_fits (g.Clauses n c) gs (v.Clauses bs ∷ vs) s token h = fits_if (is_symbol (closing c) token) _ _ (fits_or gs _ (h _)) (clause_fits n false (g.Clauses n c ∷ gs) bs vs s token ((λ cs. h), tt))
 goal_fits (g.Clauses n c) gs _ s token h = absurd h
 goal_fits (g.Clause n inner) gs (v.Clauses bs ∷ vs) s token h = clause_fits n inner gs bs vs s token h
 goal_fits (g.Clause n inner) gs _ s token h = absurd h
-goal_fits (g.ClauseRest n inner) gs (v.Pattern x ∷ v.Clauses bs ∷ vs) s token h = fits_if (is_word w.When token) _ _ (λ y z o. h.0 _) tt
+goal_fits (g.ClauseRest n inner) gs (v.Pattern x ∷ v.Clauses bs ∷ vs) s token h = fits_if (is_symbol w.When token) _ _ (λ y z o. h.0 _) tt
 goal_fits (g.ClauseRest n inner) gs _ s token h = absurd h
 goal_fits (g.ClauseNote n inner) gs vs s token h = clause_note_fits n inner gs vs s token h
-goal_fits (g.Note n) gs vs s token h = fits_on (is_word w.NoteBar token) _ h
+goal_fits (g.Note n) gs vs s token h = fits_on (is_symbol w.NoteBar token) _ h
 goal_fits (g.Key n) gs vs s token h = key_fits n gs vs s token h
 goal_fits (g.AttributeValue n) gs vs s token h = value_fits n gs vs s token h
 goal_fits (g.Primop n) gs vs s token h = primop_fits n gs vs s token h
@@ -394,12 +394,12 @@ goal_fits g.FunctionArity gs _ s token h = absurd h
 goal_fits g.InfoArity gs vs s (t.Integer sign.Absent digits) h = fits_if (leb (value digits) 1) _ _ (fits_or gs _ (h.1 s)) (fits_or gs _ (h.0 _))
 goal_fits g.InfoArity gs vs s _ h = tt
 goal_fits (g.Functions n) gs (v.Functions es ∷ vs) s token h =
-    fits_if (is_word w.In token) _ _ (fits_or gs _ (h _)) (function_fits n (g.Word w.Equals ∷ g.FunctionBody n ∷ g.Build f.Function ∷ g.Functions n ∷ gs) (v.Functions es ∷ vs) s token (λ x xs y o. h))
+    fits_if (is_symbol w.In token) _ _ (fits_or gs _ (h _)) (function_fits n (g.Symbol w.Equals ∷ g.FunctionBody n ∷ g.Build f.Function ∷ g.Functions n ∷ gs) (v.Functions es ∷ vs) s token (λ x xs y o. h))
 goal_fits (g.Functions n) gs _ s token h = absurd h
 goal_fits (g.FunctionName n) gs vs s token h = function_fits n gs vs s token h
 goal_fits (g.Definitions n) gs (v.Functions es ∷ vs) s token h =
-    fits_if (is_word w.End token) _ _ (h _)
-    (definition_fits n (g.Word w.Equals ∷ g.FunctionBody n ∷ g.Build f.Definition ∷ g.Definitions n ∷ gs) (v.Functions es ∷ vs) s token ((λ x xs y o. h), (λ before xs y o. h)))
+    fits_if (is_symbol w.End token) _ _ (h _)
+    (definition_fits n (g.Symbol w.Equals ∷ g.FunctionBody n ∷ g.Build f.Definition ∷ g.Definitions n ∷ gs) (v.Functions es ∷ vs) s token ((λ x xs y o. h), (λ before xs y o. h)))
 goal_fits (g.Definitions n) gs _ s token h = absurd h
 goal_fits (g.DefinitionName n) gs vs s token h = definition_fits n gs vs s token h
 goal_fits (g.FunctionBody n) gs vs s token h = body_fits n gs vs s token h
@@ -419,11 +419,11 @@ some_if : (b : Bool) (x y : Option State) → FitsSome x → FitsSome y → Fits
 some_if true x y h k = h
 some_if false x y h k = k
 
-some_built : (o : Option (List Value × Tables)) (gs : List Goal) (next : Option Word) → IfBuilt o (λ ws. Fits gs ws) → ((ws : List Value) (u : Tables) → Fits gs ws → FitsSome (settled gs ws u next)) → FitsSome (with_built o (λ ws u. settled gs ws u next))
+some_built : (o : Option (List Value × Tables)) (gs : List Goal) (next : Option Symbol) → IfBuilt o (λ ws. Fits gs ws) → ((ws : List Value) (u : Tables) → Fits gs ws → FitsSome (settled gs ws u next)) → FitsSome (with_built o (λ ws u. settled gs ws u next))
 some_built None gs next h further = h
 some_built (Some r) gs next h further = further r.0 r.1 h
 
-settle_fit : (gs : List Goal) (vs : List Value) (s : Tables) (next : Option Word) → Fits gs vs → FitsSome (settled gs vs s next)
+settle_fit : (gs : List Goal) (vs : List Value) (s : Tables) (next : Option Symbol) → Fits gs vs → FitsSome (settled gs vs s next)
 unfolding settled
 settle_fit [] vs s next h = absurd h
 settle_fit (g.Build form ∷ gs) vs s next h = some_built (built form vs s) gs next (h s) (λ ws u k. settle_fit gs ws u next k)
@@ -435,7 +435,7 @@ settle_fit (g.ClauseRest n true ∷ gs) (v.Pattern x ∷ v.Clauses bs ∷ vs) s 
 settle_fit (g.ClauseRest n true ∷ gs) _ s next h = absurd h
 settle_fit (goal ∷ gs) vs s next h = h
 
-pub settle_fits : (gs : List Goal) (vs : List Value) (s : Tables) (next : Option Word) → FitsOrDone gs vs → FitsSome (settled gs vs s next)
+pub settle_fits : (gs : List Goal) (vs : List Value) (s : Tables) (next : Option Symbol) → FitsOrDone gs vs → FitsSome (settled gs vs s next)
 unfolding settled
 settle_fits [] vs s next h = h
 settle_fits (goal ∷ gs) vs s next h = settle_fit (goal ∷ gs) vs s next h

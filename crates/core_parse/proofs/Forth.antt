@@ -1,12 +1,12 @@
 -- What is to be read, one token on: constants, annotations, variables and patterns.
 use Rattle.std.proofs.Common.{◌≡◌, ℕ, ◌+◌, List, [], ◌∷◌, ◌++◌, Option, Some, None, inl, inr, refl, sym, subst}
 use Rattle.std.proofs.lemmas.List.{append_assoc, append-nil}
-use Rattle.hy_core.specs.Marks.{Marked, at, constant, plain, word, value}
+use Rattle.hy_core.specs.Marks.{Marked, at, constant, plain, symbol, value}
 use Rattle.hy_core.specs.Numbering.{atom_number, with_atom}
 use Rattle.hy_core.specs.Annotations as notes
 use Rattle.hy_core.specs.Annotations.{IsConstant, AreConstants, AreMoreConstants, IsConstantList, IsConstantEnd, IsConstantTail, IsNote, IsAtom, IsName, IsAttributeValue, AreAttributes, AreMoreAttributes}
-use Rattle.hy_core.specs.declared.token.Word.{Word}
-use Rattle.hy_core.specs.declared.token.Word.TheVariants as w
+use Rattle.hy_core.specs.declared.token.Symbol.{Symbol}
+use Rattle.hy_core.specs.declared.token.Symbol.TheVariants as w
 use Rattle.hy_core.specs.declared.token.Token.{Token}
 use Rattle.hy_core.specs.declared.token.Token.TheVariants as t
 use Rattle.hy_core.specs.declared.tables.Tables.{Tables}
@@ -23,8 +23,8 @@ use Rattle.core_parse.specs.declared.state.Value.TheVariants as v
 use Rattle.core_parse.specs.declared.state.State.{State}
 use Rattle.hy_core.specs.Patterns as pats
 use Rattle.hy_core.specs.Patterns.{IsVariable, AreVariables, AreMoreVariables, BindsValues, IsNotBefore, IsAliased, IsPattern, ArePatterns, AreMorePatterns, IsPatternList, IsPatternEnd, IsPatternTail}
-use Rattle.core_parse.specs.Machine.{closing, part_begun, constant_begun, variable_begun, pattern_begun, key_begun, value_begun, primop_begun, goal_moved, parts_moved, part_mark, annotation_mark, value_mark, mark}
-use Rattle.core_parse.specs.Trees.{opened, behind_head_patterns}
+use Rattle.core_parse.specs.code.Pushdown.{closing, part_begun, constant_begun, variable_begun, pattern_begun, key_begun, value_begun, primop_begun, goal_moved, parts_moved, part_mark, annotation_mark, value_mark, mark}
+use Rattle.core_parse.specs.code.Trees.{opened, behind_head_patterns}
 use Rattle.core_parse.proofs.Tests.{Opens, not_closing, is_itself, is_not}
 use Rattle.core_parse.proofs.Meaning.{Completes}
 use Rattle.core_parse.proofs.Joins.{join_front_patterns}
@@ -85,7 +85,7 @@ parts_first k n c gs vs s [] z opens h = h
 parts_first k n c gs vs s (m ∷ ms) z opens h = rw (not_closing c m.token opens) h
 
 pub parts_closed : (k : Part) (n : ℕ) (c : Closer) (gs : List Goal) (vs : List Value) (s : Tables) (q : List Marked) (z : Module) → Completes gs (opened k vs) s q z
-    → Forth (mark (g.Parts k n c)) (parts_moved k n c gs vs s) (word (closing c) ∷ q) z
+    → Forth (mark (g.Parts k n c)) (parts_moved k n c gs vs s) (symbol (closing c) ∷ q) z
 parts_closed k n c gs vs s q z h = rw (is_itself (closing c)) (refl, h)
 
 -- behind a head, or the bar, of a list notation
@@ -94,8 +94,8 @@ pub heads_first : (k : Part) (n : ℕ) (gs : List Goal) (vs : List Value) (s : T
 heads_first k n gs vs s [] z opens h = h
 heads_first k n gs vs s (m ∷ ms) z opens h = rw (not_closing closer.List m.token opens) h
 
-pub tail_first : (k : Part) (n : ℕ) (gs : List Goal) (vs : List Value) (s : Tables) (m : Marked) (ms : List Marked) (z : Module) → (m.token ≡ t.Word w.OpenList → ⊥)
-    → Forth (part_mark k (n + 1)) (part_begun k (n + 1) (g.Word w.CloseList ∷ g.Build (f.Join k) ∷ gs) vs s) (m ∷ ms) z → Forth (mark (g.Tail k n)) (goal_moved (g.Tail k n) gs vs s) (m ∷ ms) z
+pub tail_first : (k : Part) (n : ℕ) (gs : List Goal) (vs : List Value) (s : Tables) (m : Marked) (ms : List Marked) (z : Module) → (m.token ≡ t.Symbol w.OpenList → ⊥)
+    → Forth (part_mark k (n + 1)) (part_begun k (n + 1) (g.Symbol w.CloseList ∷ g.Build (f.Join k) ∷ gs) vs s) (m ∷ ms) z → Forth (mark (g.Tail k n)) (goal_moved (g.Tail k n) gs vs s) (m ∷ ms) z
 tail_first k n gs vs s m ms z never h = rw (is_not w.OpenList m.token never) h
 
 -- ---- constants
@@ -118,7 +118,7 @@ constants_forth {n = n} {ms = ms} c (notes.some_constants d more) gs vs s z h =
 pub more_constants_forth : {n : ℕ} {ms q : List Marked} (c : Closer) → AreMoreConstants n (closing c) ms q → (gs : List Goal) (vs : List Value) (s : Tables) (z : Module) → Completes gs vs s q z
     → Forth (mark (g.MoreParts part.Constant n c)) (goal_moved (g.MoreParts part.Constant n c) gs vs s) ms z
 more_constants_forth c notes.no_more gs vs s z h = rw (is_itself (closing c)) (refl, h)
-more_constants_forth c (notes.one_more d more) gs vs s z h = rw (not_closing c (t.Word w.Comma) refl) (refl, (_, d, (_, more, h)))
+more_constants_forth c (notes.one_more d more) gs vs s z h = rw (not_closing c (t.Symbol w.Comma) refl) (refl, (_, d, (_, more, h)))
 
 pub constant_list_forth : {n : ℕ} {ms q : List Marked} → IsConstantList n ms q → (gs : List Goal) (vs : List Value) (s : Tables) (z : Module) → Completes gs vs s q z
     → Forth (mark (g.Heads part.Constant n)) (goal_moved (g.Heads part.Constant n) gs vs s) ms z
@@ -132,11 +132,11 @@ constant_end_forth notes.closed gs vs s z h = (refl, h)
 constant_end_forth (notes.next_head d more) gs vs s z h = (refl, (_, d, (_, more, h)))
 constant_end_forth (notes.tail d) gs vs s z h = (refl, (_, d, h))
 
-pub constant_tail_forth : {n : ℕ} {ms q : List Marked} → IsConstantTail n ms (word w.CloseList ∷ q) → (gs : List Goal) (vs : List Value) (s : Tables) (z : Module) → Completes gs vs s q z
+pub constant_tail_forth : {n : ℕ} {ms q : List Marked} → IsConstantTail n ms (symbol w.CloseList ∷ q) → (gs : List Goal) (vs : List Value) (s : Tables) (z : Module) → Completes gs vs s q z
     → Forth (mark (g.Tail part.Constant n)) (goal_moved (g.Tail part.Constant n) gs vs s) ms z
 constant_tail_forth (notes.list_tail d) gs vs s z h = (refl, (_, d, (_, refl, h)))
 constant_tail_forth {n = n} (notes.other_tail {m = m} {ms = ms} never d) gs vs s z h =
-    tail_first part.Constant n gs vs s m ms z never (constant_forth d (g.Word w.CloseList ∷ g.Build (f.Join part.Constant) ∷ gs) vs s z (_, refl, h))
+    tail_first part.Constant n gs vs s m ms z never (constant_forth d (g.Symbol w.CloseList ∷ g.Build (f.Join part.Constant) ∷ gs) vs s z (_, refl, h))
 
 -- ---- annotations and what they stand round
 
@@ -164,9 +164,9 @@ value_forth (notes.unannotated (notes.tuple d)) gs vs s z h = (refl, (_, d, h))
 value_forth (notes.unannotated (notes.list d)) gs vs s z h = (refl, (_, d, h))
 value_forth (notes.noted d end) gs vs s z h = (refl, (_, d, (_, end, h)))
 
-pub attribute_forth : {n : ℕ} {ms q r : List Marked} {key : List ℕ} → IsAtom n ms key (word w.Equals ∷ q) → IsAttributeValue n q r → (gs : List Goal) (vs : List Value) (s : Tables) (z : Module) → Completes gs vs s r z
+pub attribute_forth : {n : ℕ} {ms q r : List Marked} {key : List ℕ} → IsAtom n ms key (symbol w.Equals ∷ q) → IsAttributeValue n q r → (gs : List Goal) (vs : List Value) (s : Tables) (z : Module) → Completes gs vs s r z
     → Forth (annotation_mark n) (part_begun part.Attribute n gs vs s) ms z
-attribute_forth {n = n} d value gs vs s z h = key_forth d (g.Word w.Equals ∷ g.AttributeValue n ∷ gs) vs s z (_, refl, (_, value, h))
+attribute_forth {n = n} d value gs vs s z h = key_forth d (g.Symbol w.Equals ∷ g.AttributeValue n ∷ gs) vs s z (_, refl, (_, value, h))
 
 pub attributes_forth : {n : ℕ} {ms q : List Marked} (c : Closer) → AreAttributes n (closing c) ms q → (gs : List Goal) (vs : List Value) (s : Tables) (z : Module) → Completes gs vs s q z
     → Forth (mark (g.Parts part.Attribute n c)) (parts_moved part.Attribute n c gs vs s) ms z
@@ -177,7 +177,7 @@ attributes_forth {n = n} {ms = ms} c (notes.some d value more) gs vs s z h =
 pub more_attributes_forth : {n : ℕ} {ms q : List Marked} (c : Closer) → AreMoreAttributes n (closing c) ms q → (gs : List Goal) (vs : List Value) (s : Tables) (z : Module) → Completes gs vs s q z
     → Forth (mark (g.MoreParts part.Attribute n c)) (goal_moved (g.MoreParts part.Attribute n c) gs vs s) ms z
 more_attributes_forth c notes.no_more gs vs s z h = rw (is_itself (closing c)) (refl, h)
-more_attributes_forth c (notes.one_more d value more) gs vs s z h = rw (not_closing c (t.Word w.Comma) refl) (refl, (_, _, _, d, value, (_, more, h)))
+more_attributes_forth c (notes.one_more d value more) gs vs s z h = rw (not_closing c (t.Symbol w.Comma) refl) (refl, (_, _, _, d, value, (_, more, h)))
 
 -- ---- variables
 
@@ -198,7 +198,7 @@ pub more_variables_forth : {n : ℕ} {s u : Tables} {ms q : List Marked} {ys : L
 more_variables_forth {u = u} {q = q} c pats.no_more x xs gs vs z h =
     rw (is_itself (closing c)) (refl, subst (λ (k : List ℕ). Completes gs (v.Variables k ∷ vs) u q z) (append-nil (xs ++ x ∷ [])) h)
 more_variables_forth {u = u} {q = q} c (pats.one_more {v = y} {vs = ys} d more) x xs gs vs z h =
-    rw (not_closing c (t.Word w.Comma) refl)
+    rw (not_closing c (t.Symbol w.Comma) refl)
     (refl, (_, _, _, d, (_, _, _, more, subst (λ (k : List ℕ). Completes gs (v.Variables k ∷ vs) u q z) (sym (append_assoc (xs ++ x ∷ []) (y ∷ []) ys)) h)))
 
 pub bindings_forth : {n : ℕ} {s u : Tables} {ms q : List Marked} {xs : List ℕ} → BindsValues n s ms xs u q → (gs : List Goal) (vs : List Value) (z : Module) → Completes gs (v.Variables xs ∷ vs) u q z
@@ -210,7 +210,7 @@ bindings_forth (pats.many d) gs vs z h = (refl, (_, _, _, d, h))
 -- ---- patterns
 
 -- a note begins with its bar
-pub note_not_before : {n : ℕ} {ms q : List Marked} (k : Word) → IsNote n ms q → (t.Word w.NoteBar ≡ t.Word k → ⊥) → IsNotBefore k ms
+pub note_not_before : {n : ℕ} {ms q : List Marked} (k : Symbol) → IsNote n ms q → (t.Symbol w.NoteBar ≡ t.Symbol k → ⊥) → IsNotBefore k ms
 note_not_before k (notes.note d) never = never
 
 -- what may stand before the = of an alias is a pattern where it doesn't
@@ -244,7 +244,7 @@ pub more_patterns_forth : {n : ℕ} {s u : Tables} {ms q : List Marked} {ys : Li
 more_patterns_forth {u = u} {q = q} c pats.no_more x xs gs vs z h =
     rw (is_itself (closing c)) (refl, subst (λ (k : List Pattern). Completes gs (v.Patterns k ∷ vs) u q z) (append-nil (xs ++ x ∷ [])) h)
 more_patterns_forth {u = u} {q = q} c (pats.one_more {x = y} {xs = ys} d more) x xs gs vs z h =
-    rw (not_closing c (t.Word w.Comma) refl)
+    rw (not_closing c (t.Symbol w.Comma) refl)
     (refl, (_, _, _, d, (_, _, _, more, subst (λ (k : List Pattern). Completes gs (v.Patterns k ∷ vs) u q z) (sym (append_assoc (xs ++ x ∷ []) (y ∷ []) ys)) h)))
 
 pub pattern_list_forth : {n : ℕ} {s u : Tables} {ms q : List Marked} {x : Pattern} → IsPatternList n s ms x u q → (xs : List Pattern) (gs : List Goal) (vs : List Value) (z : Module)
@@ -265,8 +265,8 @@ pattern_end_forth {u = u} {q = q} (pats.next_head {x = y} {tail = tail} {xs = ys
 pattern_end_forth {u = u} {q = q} (pats.tail {tail = tail} d) x xs gs vs z h =
     (refl, (_, _, _, d, subst (λ (k : List Pattern). Completes gs (v.Pattern (behind_head_patterns k tail) ∷ vs) u q z) (append-nil (xs ++ x ∷ [])) h))
 
-pub pattern_tail_forth : {n : ℕ} {s u : Tables} {ms q : List Marked} {x : Pattern} → IsPatternTail n s ms x u (word w.CloseList ∷ q) → (xs : List Pattern) (gs : List Goal) (vs : List Value) (z : Module)
+pub pattern_tail_forth : {n : ℕ} {s u : Tables} {ms q : List Marked} {x : Pattern} → IsPatternTail n s ms x u (symbol w.CloseList ∷ q) → (xs : List Pattern) (gs : List Goal) (vs : List Value) (z : Module)
     → Completes gs (v.Pattern (behind_head_patterns xs x) ∷ vs) u q z → Forth (mark (g.Tail part.Pattern n)) (goal_moved (g.Tail part.Pattern n) gs (v.Patterns xs ∷ vs) s) ms z
 pattern_tail_forth (pats.list_tail d) xs gs vs z h = (refl, (_, _, _, d, (_, refl, h)))
 pattern_tail_forth {n = n} {s = s} (pats.other_tail {m = m} {ms = ms} never d) xs gs vs z h =
-    tail_first part.Pattern n gs (v.Patterns xs ∷ vs) s m ms z never (pattern_forth d (g.Word w.CloseList ∷ g.Build (f.Join part.Pattern) ∷ gs) (v.Patterns xs ∷ vs) z (_, refl, h))
+    tail_first part.Pattern n gs (v.Patterns xs ∷ vs) s m ms z never (pattern_forth d (g.Symbol w.CloseList ∷ g.Build (f.Join part.Pattern) ∷ gs) (v.Patterns xs ∷ vs) z (_, refl, h))

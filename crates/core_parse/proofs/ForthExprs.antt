@@ -3,11 +3,11 @@ use Rattle.std.proofs.Common.{◌≡◌, ℕ, ◌+◌, Bool, true, false, List, 
 use Rattle.std.proofs.lemmas.List.{append_assoc, append-nil}
 use Rattle.std.proofs.lemmas.Slice.Eq.{bytes_eq-Decides}
 use Rattle.hy_terms.proofs.NamingLemmas.{bytes_eq-same}
-use Rattle.hy_core.specs.Marks.{Marked, at, word, arity}
+use Rattle.hy_core.specs.Marks.{Marked, at, symbol, arity}
 use Rattle.hy_core.specs.Numbering.{atom_number, with_atom}
 use Rattle.hy_core.specs.Annotations as notes
 use Rattle.hy_core.specs.Annotations.{IsConstant, AreConstants, AreMoreConstants, IsConstantList, IsConstantEnd, IsConstantTail, IsNote, IsAtom, IsName, IsAttributeValue, AreAttributes, AreMoreAttributes}
-use Rattle.hy_core.specs.declared.token.Word.TheVariants as w
+use Rattle.hy_core.specs.declared.token.Symbol.TheVariants as w
 use Rattle.hy_core.specs.declared.token.Token.TheVariants as t
 use Rattle.hy_core.specs.declared.tables.Tables.{Tables}
 use Rattle.hy_core.specs.declared.tree.Module.{Module}
@@ -25,8 +25,8 @@ use Rattle.hy_core.specs.Expressions as exprs
 use Rattle.hy_core.specs.Expressions.{named_by, IsExpr, AreExprs, AreMoreExprs, IsList, IsListEnd, IsTail, IsClause, AreClauses, IsFunction, AreFunctions}
 use Rattle.hy_core.specs.Grammar as mods
 use Rattle.hy_core.specs.Grammar.{the_module_info, IsDropped, IsExport, AreExports, AreMoreExports, AreDefinitions, IsModuleAt}
-use Rattle.core_parse.specs.Machine.{closing, is_info, expr_begun, function_begun, definition_begun, export_begun, clause_begun, body_begun, module_begun, goal_moved, parts_moved, annotation_mark, clause_mark, mark}
-use Rattle.core_parse.specs.Trees.{behind_heads}
+use Rattle.core_parse.specs.code.Pushdown.{closing, is_info, expr_begun, function_begun, definition_begun, export_begun, clause_begun, body_begun, module_begun, goal_moved, parts_moved, annotation_mark, clause_mark, mark}
+use Rattle.core_parse.specs.code.Trees.{behind_heads}
 use Rattle.core_parse.proofs.Tests.{Opens, not_closing, is_itself, is_not}
 use Rattle.core_parse.proofs.Meaning.{Completes, DefinedThen, ExportedThen, tables_of}
 use Rattle.core_parse.proofs.Joins.{join_front}
@@ -115,7 +115,7 @@ pub more_exprs_forth : {n : ℕ} {s u : Tables} {ms q : List Marked} {ys : List 
 more_exprs_forth {u = u} {q = q} c exprs.no_more x xs gs vs z h =
     rw (is_itself (closing c)) (refl, subst (λ (k : List Expr). Completes gs (v.Exprs k ∷ vs) u q z) (append-nil (xs ++ x ∷ [])) h)
 more_exprs_forth {u = u} {q = q} c (exprs.one_more {x = y} {xs = ys} d more) x xs gs vs z h =
-    rw (not_closing c (t.Word w.Comma) refl)
+    rw (not_closing c (t.Symbol w.Comma) refl)
     (refl, (_, _, _, d, (_, _, _, more, subst (λ (k : List Expr). Completes gs (v.Exprs k ∷ vs) u q z) (sym (append_assoc (xs ++ x ∷ []) (y ∷ []) ys)) h)))
 
 pub list_forth : {n : ℕ} {s u : Tables} {ms q : List Marked} {x : Expr} → IsList n s ms x u q → (xs : List Expr) (gs : List Goal) (vs : List Value) (z : Module)
@@ -136,11 +136,11 @@ list_end_forth {u = u} {q = q} (exprs.next_head {x = y} {tail = tail} {xs = ys} 
 list_end_forth {u = u} {q = q} (exprs.tail {tail = tail} d) x xs gs vs z h =
     (refl, (_, _, _, d, subst (λ (k : List Expr). Completes gs (v.Expr (behind_heads k tail) ∷ vs) u q z) (append-nil (xs ++ x ∷ [])) h))
 
-pub tail_forth : {n : ℕ} {s u : Tables} {ms q : List Marked} {x : Expr} → IsTail n s ms x u (word w.CloseList ∷ q) → (xs : List Expr) (gs : List Goal) (vs : List Value) (z : Module)
+pub tail_forth : {n : ℕ} {s u : Tables} {ms q : List Marked} {x : Expr} → IsTail n s ms x u (symbol w.CloseList ∷ q) → (xs : List Expr) (gs : List Goal) (vs : List Value) (z : Module)
     → Completes gs (v.Expr (behind_heads xs x) ∷ vs) u q z → Forth (mark (g.Tail part.Expr n)) (goal_moved (g.Tail part.Expr n) gs (v.Exprs xs ∷ vs) s) ms z
 tail_forth (exprs.list_tail d) xs gs vs z h = (refl, (_, _, _, d, (_, refl, h)))
 tail_forth {n = n} {s = s} (exprs.other_tail {m = m} {ms = ms} never d) xs gs vs z h =
-    tail_first part.Expr n gs (v.Exprs xs ∷ vs) s m ms z never (expr_forth d (g.Word w.CloseList ∷ g.Build (f.Join part.Expr) ∷ gs) (v.Exprs xs ∷ vs) z (_, refl, h))
+    tail_first part.Expr n gs (v.Exprs xs ∷ vs) s m ms z never (expr_forth d (g.Symbol w.CloseList ∷ g.Build (f.Join part.Expr) ∷ gs) (v.Exprs xs ∷ vs) z (_, refl, h))
 
 -- ---- clauses
 
@@ -170,7 +170,7 @@ whole_clause_forth : {n : ℕ} {s u : Tables} {ms q : List Marked} {c : Clause} 
     → Completes gs (v.Clauses (cs ++ c ∷ []) ∷ vs) u q z → Forth (clause_mark n) (clause_begun n inner gs (v.Clauses cs ∷ vs) s) ms z
 whole_clause_forth {n = n} (exprs.one_pattern {i = i} {q = q} {x = x} d guard body) inner cs gs vs z h =
     clause_pattern_forth d inner gs (v.Clauses cs ∷ vs) z
-    (when_forth inner n gs x (v.Clauses cs ∷ vs) i (word w.When ∷ q) z (_, refl, (_, _, _, guard, (_, refl, (_, _, _, body, h)))))
+    (when_forth inner n gs x (v.Clauses cs ∷ vs) i (symbol w.When ∷ q) z (_, refl, (_, _, _, guard, (_, refl, (_, _, _, body, h)))))
 whole_clause_forth (exprs.patterns d guard body) inner cs gs vs z h = (refl, (_, _, _, d, (_, refl, (_, _, _, guard, (_, refl, (_, _, _, body, h))))))
 whole_clause_forth (exprs.noted_clause d end) inner cs gs vs z h = (refl, inl (_, _, _, d, (_, end, h)))
 
@@ -221,7 +221,7 @@ definition_name_forth {n = n} {q = q} (notes.name text digits) gs vs s z h = (re
     kept never (inl (kept_one, k)) = k
     kept never (inr (is, k)) = absurd (not_info text never is.0)
 
-    test : (b : Bool) → is_info text ≡ b → Moves (definition_begun n gs vs s (t.Atom text)) (word w.Slash ∷ arity digits ∷ q) z
+    test : (b : Bool) → is_info text ≡ b → Moves (definition_begun n gs vs s (t.Atom text)) (symbol w.Slash ∷ arity digits ∷ q) z
     test true is = rw is (_, refl, (digits, (_, refl, subst (λ (k : List ℕ). DefinedThen k digits vs s q (λ ws u r. Completes gs ws u r z)) (info_is text is) h)))
     test false is = rw is (_, refl, (digits, (_, refl, kept is h)))
 definition_name_forth {n = n} {q = r} (notes.noted {q = q} {text = text} {digits = digits} d end) gs vs s z h = (refl, (text, digits, q, d, further h))
@@ -238,7 +238,7 @@ export_name_forth {n = n} {q = q} (notes.name text digits) es gs vs s z h = (ref
     kept never (inl (kept_one, k)) = k
     kept never (inr (is, k)) = absurd (not_info text never is.0)
 
-    test : (b : Bool) → is_info text ≡ b → Moves (export_begun n gs (v.Names es ∷ vs) s (t.Atom text)) (word w.Slash ∷ arity digits ∷ q) z
+    test : (b : Bool) → is_info text ≡ b → Moves (export_begun n gs (v.Names es ∷ vs) s (t.Atom text)) (symbol w.Slash ∷ arity digits ∷ q) z
     test true is = rw is (_, refl, (digits, (_, refl, subst (λ (k : List ℕ). ExportedThen k digits es vs s q (λ ws u r. Completes gs ws u r z)) (info_is text is) h)))
     test false is = rw is (_, refl, (digits, (_, refl, kept is h)))
 export_name_forth {n = n} {q = r} (notes.noted {ms = ms} {q = q} {text = text} {digits = digits} d end) es gs vs s z h = (refl, further h)
@@ -263,7 +263,7 @@ pub more_exports_forth : {n : ℕ} {s u : Tables} {ms q : List Marked} {xs : Lis
 more_exports_forth {u = u} {q = q} c mods.no_more es gs vs z h =
     rw (is_itself (closing c)) (refl, subst (λ (k : List FunName). Completes gs (v.Names k ∷ vs) u q z) (append-nil es) h)
 more_exports_forth {u = u} {q = r} c (mods.one_more {xs = xs} {ys = ys} d more) es gs vs z h =
-    rw (not_closing c (t.Word w.Comma) refl)
+    rw (not_closing c (t.Symbol w.Comma) refl)
     (refl, (_, _, _, d, (_, _, _, more, subst (λ (k : List FunName). Completes gs (v.Names k ∷ vs) u r z) (sym (append_assoc es xs ys)) h)))
 
 pub functions_forth : {n : ℕ} {s u : Tables} {ms q : List Marked} {fs : List Function} → AreFunctions n s ms fs u q → (es : List Function) (gs : List Goal) (vs : List Value) (z : Module)
@@ -271,20 +271,20 @@ pub functions_forth : {n : ℕ} {s u : Tables} {ms q : List Marked} {fs : List F
 functions_forth {u = u} {q = q} exprs.no_functions es gs vs z h = (refl, subst (λ (k : List Function). Completes gs (v.Functions k ∷ vs) u q z) (append-nil es) h)
 functions_forth {n = n} {s = s} {u = u} {ms = ms} {q = r} (exprs.some_functions {text = text} {digits = digits} {vs = xs} {x = x} {fs = fs} d body more) es gs vs z h =
     at_first ms (name_first d)
-    (function_name_forth d (g.Word w.Equals ∷ g.FunctionBody n ∷ g.Build f.Function ∷ g.Functions n ∷ gs) (v.Functions es ∷ vs) s z
+    (function_name_forth d (g.Symbol w.Equals ∷ g.FunctionBody n ∷ g.Build f.Function ∷ g.Functions n ∷ gs) (v.Functions es ∷ vs) s z
     (_, refl, (_, _, _, _, body, (_, _, _, more, subst (λ (k : List Function). Completes gs (v.Functions k ∷ vs) u r z) (sym (append_assoc es (exprs.function (named_by (atom_number s text) digits) xs x ∷ []) fs)) h))))
   where
     name_first : {n : ℕ} {ms q : List Marked} {text digits : List ℕ} → IsName n ms text digits q → IsNotBefore w.In ms
     name_first (notes.name text digits) = λ is. cc
     name_first (notes.noted d end) = λ is. cc
 
-    at_first : (os : List Marked) → IsNotBefore w.In os → Forth (annotation_mark n) (function_begun n (g.Word w.Equals ∷ g.FunctionBody n ∷ g.Build f.Function ∷ g.Functions n ∷ gs) (v.Functions es ∷ vs) s) os z
+    at_first : (os : List Marked) → IsNotBefore w.In os → Forth (annotation_mark n) (function_begun n (g.Symbol w.Equals ∷ g.FunctionBody n ∷ g.Build f.Function ∷ g.Functions n ∷ gs) (v.Functions es ∷ vs) s) os z
         → Forth (annotation_mark n) (goal_moved (g.Functions n) gs (v.Functions es ∷ vs) s) os z
     at_first [] never k = k
     at_first (m ∷ os) never k = rw (is_not w.In m.token never) k
 
 definition_first : (n : ℕ) (ms : List Marked) (gs : List Goal) (es : List Function) (vs : List Value) (s : Tables) (z : Module) → Opens ms
-    → Forth (annotation_mark n) (definition_begun n (g.Word w.Equals ∷ g.FunctionBody n ∷ g.Build f.Definition ∷ g.Definitions n ∷ gs) (v.Functions es ∷ vs) s) ms z
+    → Forth (annotation_mark n) (definition_begun n (g.Symbol w.Equals ∷ g.FunctionBody n ∷ g.Build f.Definition ∷ g.Definitions n ∷ gs) (v.Functions es ∷ vs) s) ms z
     → Forth (annotation_mark n) (goal_moved (g.Definitions n) gs (v.Functions es ∷ vs) s) ms z
 definition_first n [] gs es vs s z opens k = k
 definition_first n (m ∷ ms) gs es vs s z opens k = rw (not_closing closer.Case m.token opens) k
@@ -294,11 +294,11 @@ pub definitions_forth : {n : ℕ} {s u : Tables} {ms q : List Marked} {fs : List
 definitions_forth {u = u} {q = q} mods.no_definitions es gs vs z h = (refl, subst (λ (k : List Function). Completes gs (v.Functions k ∷ vs) u q z) (append-nil es) h)
 definitions_forth {n = n} {s = s} {u = u} {ms = ms} {q = r} (mods.kept_definition {text = text} {digits = digits} {vs = xs} {x = x} {fs = fs} d never body more) es gs vs z h =
     definition_first n ms gs es vs s z (name_opens d)
-    (definition_name_forth d (g.Word w.Equals ∷ g.FunctionBody n ∷ g.Build f.Definition ∷ g.Definitions n ∷ gs) (v.Functions es ∷ vs) s z
+    (definition_name_forth d (g.Symbol w.Equals ∷ g.FunctionBody n ∷ g.Build f.Definition ∷ g.Definitions n ∷ gs) (v.Functions es ∷ vs) s z
     (inl (never, (_, refl, (_, _, _, _, body, (_, _, _, more, subst (λ (k : List Function). Completes gs (v.Functions k ∷ vs) u r z) (sym (append_assoc es (exprs.function (named_by (atom_number s text) digits) xs x ∷ []) fs)) h))))))
 definitions_forth {n = n} {s = s} {ms = ms} (mods.dropped_definition d is body more) es gs vs z h =
     definition_first n ms gs es vs s z (name_opens d)
-    (definition_name_forth d (g.Word w.Equals ∷ g.FunctionBody n ∷ g.Build f.Definition ∷ g.Definitions n ∷ gs) (v.Functions es ∷ vs) s z
+    (definition_name_forth d (g.Symbol w.Equals ∷ g.FunctionBody n ∷ g.Build f.Definition ∷ g.Definitions n ∷ gs) (v.Functions es ∷ vs) s z
     (inr (is, (_, refl, (_, _, _, _, body, (_, _, _, more, h))))))
 
 -- ---- the module

@@ -2,9 +2,9 @@
 use Rattle.std.proofs.Common.{◌≡◌, ℕ, ◌≤◌, ◌<◌, leb, true, false, List, [], ◌∷◌, Option, Some, None, ◌⊎◌, inl, inr, refl, sym, ap, subst, ◌∙◌}
 use Rattle.std.proofs.lemmas.Bool.{le-leb}
 use Rattle.std.proofs.lemmas.Bool.Decides.{leb_tells}
-use Rattle.hy_core.specs.Marks.{Marked, plain, word, arity, value}
-use Rattle.hy_core.specs.declared.token.Word.{Word}
-use Rattle.hy_core.specs.declared.token.Word.TheVariants as w
+use Rattle.hy_core.specs.Marks.{Marked, plain, symbol, arity, value}
+use Rattle.hy_core.specs.declared.token.Symbol.{Symbol}
+use Rattle.hy_core.specs.declared.token.Symbol.TheVariants as w
 use Rattle.hy_core.specs.declared.token.Sign.TheVariants as sign
 use Rattle.hy_core.specs.declared.token.Token.TheVariants as t
 use Rattle.hy_core.specs.declared.tables.Tables.{Tables}
@@ -18,8 +18,8 @@ use Rattle.core_parse.specs.declared.state.Value.TheVariants as v
 use Rattle.core_parse.specs.declared.state.State.{State}
 use Rattle.hy_core.specs.Patterns.{IsNotBefore}
 use Rattle.hy_core.specs.Grammar.{the_module_info}
-use Rattle.core_parse.specs.Machine.{state, closing, word_in, is_next, with_built, goal_moved, info_arity_moved, info_export_moved, aliased_by, mark, settled, taken_from, stepped, checked}
-use Rattle.core_parse.specs.Trees.{built}
+use Rattle.core_parse.specs.code.Pushdown.{state, closing, symbol_in, is_next, with_built, goal_moved, info_arity_moved, info_export_moved, aliased_by, mark, settled, taken_from, stepped, checked}
+use Rattle.core_parse.specs.code.Trees.{built}
 use Rattle.core_parse.proofs.Tests.{first_of, is_itself, not_next}
 use Rattle.core_parse.proofs.Meaning.{Completes, OnBuilt, DefinedThen, ExportedThen}
 use Rattle.core_parse.proofs.Forth.{Moves, Forth, forth_at, constant_forth, constants_forth, more_constants_forth, constant_list_forth, constant_end_forth, constant_tail_forth, note_forth, key_forth, primop_forth, value_forth, attribute_forth, attributes_forth, more_attributes_forth, variable_forth, variables_forth, more_variables_forth, bindings_forth, pattern_forth, patterns_forth, more_patterns_forth, pattern_list_forth, pattern_end_forth, pattern_tail_forth}
@@ -29,7 +29,7 @@ use Rattle.hy_core.specs.declared.tree.Pattern.{Pattern}
 use Rattle.hy_core.specs.declared.tree.Expr.TheVariants as e
 
 -- the goal takes the first token: nothing is to be built, and it isn't passed over
-abbrev pub Sits : Goal → Option Word → Type 0
+abbrev pub Sits : Goal → Option Symbol → Type 0
 Sits (g.Build form) o = ⊥
 Sits g.NameOrAtom o = is_next w.Slash o ≡ true
 Sits (g.Alias n) o = is_next w.Equals o ≡ true
@@ -37,15 +37,15 @@ Sits (g.ClauseRest n true) o = is_next w.When o ≡ true
 Sits _ o = Unit {0}
 
 -- one says that it is next, the other that it isn't
-both_ways : {A : Type 0} (k : Word) (ms : List Marked) → is_next k (first_of ms) ≡ true → IsNotBefore k ms → A
+both_ways : {A : Type 0} (k : Symbol) (ms : List Marked) → is_next k (first_of ms) ≡ true → IsNotBefore k ms → A
 both_ways k ms is never = let bad : true ≡ false = sym is ∙ not_next k ms never in absurd cc
 
-word_next : (k : Word) (ms q : List Marked) → ms ≡ word k ∷ q → is_next k (first_of ms) ≡ true
-word_next k ms q is = ap (λ (os : List Marked). is_next k (first_of os)) is ∙ is_itself k
+symbol_next : (k : Symbol) (ms q : List Marked) → ms ≡ symbol k ∷ q → is_next k (first_of ms) ≡ true
+symbol_next k ms q is = ap (λ (os : List Marked). is_next k (first_of os)) is ∙ is_itself k
 
-word_forth : (goal : Goal) (gs : List Goal) (vs : List Value) (s : Tables) (k : Word) (ms q : List Marked) (z : Module) → ms ≡ word k ∷ q → mark goal (t.Word k) ≡ word k → Moves (goal_moved goal gs vs s (t.Word k)) q z
+symbol_forth : (goal : Goal) (gs : List Goal) (vs : List Value) (s : Tables) (k : Symbol) (ms q : List Marked) (z : Module) → ms ≡ symbol k ∷ q → mark goal (t.Symbol k) ≡ symbol k → Moves (goal_moved goal gs vs s (t.Symbol k)) q z
     → Forth (mark goal) (goal_moved goal gs vs s) ms z
-word_forth goal gs vs s k ms q z is marked h = forth_at (mark goal) (goal_moved goal gs vs s) (word k) ms q z is marked h
+symbol_forth goal gs vs s k ms q z is marked h = forth_at (mark goal) (goal_moved goal gs vs s) (symbol k) ms q z is marked h
 
 -- ---- arities of what may be dropped
 
@@ -72,32 +72,32 @@ info_export_forth gs es vs s digits q z (inr (is, h)) = rw (le-leb (value digits
 more_exports_next : (n : ℕ) (c : Closer) (gs : List Goal) (vs : List Value) (s : Tables) (ms : List Marked) (z : Module) → Completes (g.MoreParts part.Export n c ∷ gs) vs s ms z
     → Forth (mark (g.MoreParts part.Export n c)) (goal_moved (g.MoreParts part.Export n c) gs vs s) ms z
 more_exports_next n c gs (v.Names es ∷ vs) s ms z h = more_exports_forth c h.3 es gs vs z h.4
-more_exports_next n c gs [] s ms z h = word_forth (g.MoreParts part.Export n c) gs [] s (closing c) ms h.0 z h.1 refl (rw (is_itself (closing c)) h.2)
-more_exports_next n c gs (x ∷ vs) s ms z h = word_forth (g.MoreParts part.Export n c) gs (x ∷ vs) s (closing c) ms h.0 z h.1 refl (rw (is_itself (closing c)) h.2)
+more_exports_next n c gs [] s ms z h = symbol_forth (g.MoreParts part.Export n c) gs [] s (closing c) ms h.0 z h.1 refl (rw (is_itself (closing c)) h.2)
+more_exports_next n c gs (x ∷ vs) s ms z h = symbol_forth (g.MoreParts part.Export n c) gs (x ∷ vs) s (closing c) ms h.0 z h.1 refl (rw (is_itself (closing c)) h.2)
 
 clauses_next : (n : ℕ) (c : Closer) (gs : List Goal) (vs : List Value) (s : Tables) (ms : List Marked) (z : Module) → Completes (g.Clauses n c ∷ gs) vs s ms z
     → Forth (mark (g.Clauses n c)) (goal_moved (g.Clauses n c) gs vs s) ms z
 clauses_next n c gs (v.Clauses bs ∷ vs) s ms z h = clauses_forth c h.3 bs gs vs z h.4
-clauses_next n c gs [] s ms z h = word_forth (g.Clauses n c) gs [] s (closing c) ms h.0 z h.1 (rw (is_itself (closing c)) refl) (rw (is_itself (closing c)) h.2)
-clauses_next n c gs (x ∷ vs) s ms z h = word_forth (g.Clauses n c) gs (x ∷ vs) s (closing c) ms h.0 z h.1 (rw (is_itself (closing c)) refl) (rw (is_itself (closing c)) h.2)
+clauses_next n c gs [] s ms z h = symbol_forth (g.Clauses n c) gs [] s (closing c) ms h.0 z h.1 (rw (is_itself (closing c)) refl) (rw (is_itself (closing c)) h.2)
+clauses_next n c gs (x ∷ vs) s ms z h = symbol_forth (g.Clauses n c) gs (x ∷ vs) s (closing c) ms h.0 z h.1 (rw (is_itself (closing c)) refl) (rw (is_itself (closing c)) h.2)
 
 functions_next : (n : ℕ) (gs : List Goal) (vs : List Value) (s : Tables) (ms : List Marked) (z : Module) → Completes (g.Functions n ∷ gs) vs s ms z
     → Forth (mark (g.Functions n)) (goal_moved (g.Functions n) gs vs s) ms z
 functions_next n gs (v.Functions es ∷ vs) s ms z h = functions_forth h.3 es gs vs z h.4
-functions_next n gs [] s ms z h = word_forth (g.Functions n) gs [] s w.In ms h.0 z h.1 refl h.2
-functions_next n gs (x ∷ vs) s ms z h = word_forth (g.Functions n) gs (x ∷ vs) s w.In ms h.0 z h.1 refl h.2
+functions_next n gs [] s ms z h = symbol_forth (g.Functions n) gs [] s w.In ms h.0 z h.1 refl h.2
+functions_next n gs (x ∷ vs) s ms z h = symbol_forth (g.Functions n) gs (x ∷ vs) s w.In ms h.0 z h.1 refl h.2
 
 definitions_next : (n : ℕ) (gs : List Goal) (vs : List Value) (s : Tables) (ms : List Marked) (z : Module) → Completes (g.Definitions n ∷ gs) vs s ms z
     → Forth (mark (g.Definitions n)) (goal_moved (g.Definitions n) gs vs s) ms z
 definitions_next n gs (v.Functions es ∷ vs) s ms z h = definitions_forth h.3 es gs vs z h.4
-definitions_next n gs [] s ms z h = word_forth (g.Definitions n) gs [] s w.End ms h.0 z h.1 refl h.2
-definitions_next n gs (x ∷ vs) s ms z h = word_forth (g.Definitions n) gs (x ∷ vs) s w.End ms h.0 z h.1 refl h.2
+definitions_next n gs [] s ms z h = symbol_forth (g.Definitions n) gs [] s w.End ms h.0 z h.1 refl h.2
+definitions_next n gs (x ∷ vs) s ms z h = symbol_forth (g.Definitions n) gs (x ∷ vs) s w.End ms h.0 z h.1 refl h.2
 
 -- ---- every goal
 
 pub goal_forth : (goal : Goal) (gs : List Goal) (vs : List Value) (s : Tables) (ms : List Marked) (z : Module) → Sits goal (first_of ms) → Completes (goal ∷ gs) vs s ms z
     → Forth (mark goal) (goal_moved goal gs vs s) ms z
-goal_forth (g.Word k) gs vs s ms z sits (q, is, h) = word_forth (g.Word k) gs vs s k ms q z is refl (rw (is_itself k) h)
+goal_forth (g.Symbol k) gs vs s ms z sits (q, is, h) = symbol_forth (g.Symbol k) gs vs s k ms q z is refl (rw (is_itself k) h)
 goal_forth (g.Part part.Expr n) gs vs s ms z sits (x, u, q, d, h) = expr_forth d gs vs z h
 goal_forth (g.Part part.Pattern n) gs vs s ms z sits (x, u, q, d, h) = pattern_forth d gs vs z h
 goal_forth (g.Part part.Constant n) gs vs s ms z sits (q, d, h) = constant_forth d gs vs s z h
@@ -131,19 +131,19 @@ goal_forth (g.Tail part.Pattern n) gs (v.Patterns xs ∷ vs) s ms z sits (x, u, 
 goal_forth (g.Tail part.Constant n) gs vs s ms z sits (q, d, h) = constant_tail_forth d gs vs s z h
 goal_forth (g.Tail _ n) gs _ s ms z sits h = absurd h
 goal_forth g.NameOrAtom gs (v.Atom a ∷ vs) s ms z sits (inl (before, h)) = both_ways w.Slash ms sits before
-goal_forth g.NameOrAtom gs (v.Atom a ∷ vs) s ms z sits (inr (q, is, h)) = word_forth g.NameOrAtom gs (v.Atom a ∷ vs) s w.Slash ms q z is refl h
+goal_forth g.NameOrAtom gs (v.Atom a ∷ vs) s ms z sits (inr (q, is, h)) = symbol_forth g.NameOrAtom gs (v.Atom a ∷ vs) s w.Slash ms q z is refl h
 goal_forth g.NameOrAtom gs _ s ms z sits h = absurd h
 goal_forth g.Arity gs (v.Atom a ∷ vs) s ms z sits (digits, (q, is, h)) = forth_at (mark g.Arity) (goal_moved g.Arity gs (v.Atom a ∷ vs) s) (arity digits) ms q z is refl h
 goal_forth g.Arity gs _ s ms z sits h = absurd h
 goal_forth (g.Alias n) gs vs s ms z sits (inl (before, h)) = both_ways w.Equals ms sits before
 goal_forth (g.Alias n) gs (v.Pattern x ∷ vs) s ms z sits (inr (y, var, (q, is, h))) =
-    word_forth (g.Alias n) gs (v.Pattern x ∷ vs) s w.Equals ms q z is refl (subst (λ (k : Pattern). Moves (aliased_by n gs k vs s) q z) (sym var) h)
+    symbol_forth (g.Alias n) gs (v.Pattern x ∷ vs) s w.Equals ms q z is refl (subst (λ (k : Pattern). Moves (aliased_by n gs k vs s) q z) (sym var) h)
 goal_forth (g.Alias n) gs _ s ms z sits (inr h) = absurd h
 goal_forth (g.Bindings n) gs vs s ms z sits (xs, u, q, d, h) = bindings_forth d gs vs z h
 goal_forth (g.Clauses n c) gs vs s ms z sits h = clauses_next n c gs vs s ms z h
 goal_forth (g.Clause n inner) gs vs s ms z sits h = clause_forth n inner gs vs s ms z h
-goal_forth (g.ClauseRest n false) gs (v.Pattern x ∷ vs) s ms z sits (q, is, h) = word_forth (g.ClauseRest n false) gs (v.Pattern x ∷ vs) s w.When ms q z is refl h
-goal_forth (g.ClauseRest n true) gs (v.Pattern x ∷ vs) s ms z sits (inr (q, is, h)) = word_forth (g.ClauseRest n true) gs (v.Pattern x ∷ vs) s w.When ms q z is refl h
+goal_forth (g.ClauseRest n false) gs (v.Pattern x ∷ vs) s ms z sits (q, is, h) = symbol_forth (g.ClauseRest n false) gs (v.Pattern x ∷ vs) s w.When ms q z is refl h
+goal_forth (g.ClauseRest n true) gs (v.Pattern x ∷ vs) s ms z sits (inr (q, is, h)) = symbol_forth (g.ClauseRest n true) gs (v.Pattern x ∷ vs) s w.When ms q z is refl h
 goal_forth (g.ClauseRest n true) gs vs s ms z sits (inl (before, h)) = both_ways w.When ms sits before
 goal_forth (g.ClauseRest n false) gs _ s ms z sits h = absurd h
 goal_forth (g.ClauseRest n true) gs _ s ms z sits (inr h) = absurd h
@@ -173,7 +173,7 @@ goal_forth (g.Build form) gs vs s ms z sits h = absurd sits
 
 -- ---- what is built and passed over before
 
-abbrev pub SitsOn : List Goal → Option Word → Type 0
+abbrev pub SitsOn : List Goal → Option Symbol → Type 0
 SitsOn [] o = Unit {0}
 SitsOn (goal ∷ gs) o = Sits goal o
 
@@ -199,21 +199,21 @@ settle_forth (g.NameOrAtom ∷ gs) (v.Atom a ∷ vs) s ms z (inl (before, h)) =
     let next = settle_forth gs (v.Expr (e.Atom a) ∷ vs) s ms z h in
     record { rest = next.rest; is = rw (not_next w.Slash ms before) next.is; sits = next.sits; completes = next.completes }
 settle_forth (g.NameOrAtom ∷ gs) (v.Atom a ∷ vs) s ms z (inr (q, is, h)) =
-    let here = word_next w.Slash ms q is in
+    let here = symbol_next w.Slash ms q is in
     record { rest = state (g.NameOrAtom ∷ gs) (v.Atom a ∷ vs) s; is = rw here refl; sits = here; completes = inr (q, is, h) }
 settle_forth (g.NameOrAtom ∷ gs) _ s ms z h = absurd h
 settle_forth (g.Alias n ∷ gs) vs s ms z (inl (before, h)) =
     let next = settle_forth gs vs s ms z h in
     record { rest = next.rest; is = rw (not_next w.Equals ms before) next.is; sits = next.sits; completes = next.completes }
 settle_forth (g.Alias n ∷ gs) (v.Pattern x ∷ vs) s ms z (inr (y, var, (q, is, h))) =
-    let here = word_next w.Equals ms q is in
+    let here = symbol_next w.Equals ms q is in
     record { rest = state (g.Alias n ∷ gs) (v.Pattern x ∷ vs) s; is = rw here refl; sits = here; completes = inr (y, var, (q, is, h)) }
 settle_forth (g.Alias n ∷ gs) _ s ms z (inr h) = absurd h
 settle_forth (g.ClauseRest n true ∷ gs) vs s ms z (inl (before, h)) =
     let next = settle_forth gs vs s ms z h in
     record { rest = next.rest; is = rw (not_next w.When ms before) next.is; sits = next.sits; completes = next.completes }
 settle_forth (g.ClauseRest n true ∷ gs) (v.Pattern x ∷ vs) s ms z (inr (q, is, h)) =
-    let here = word_next w.When ms q is in
+    let here = symbol_next w.When ms q is in
     record { rest = state (g.ClauseRest n true ∷ gs) (v.Pattern x ∷ vs) s; is = rw here refl; sits = here; completes = inr (q, is, h) }
 settle_forth (g.ClauseRest n true ∷ gs) _ s ms z (inr h) = absurd h
 settle_forth (goal ∷ gs) vs s ms z h = record { rest = state (goal ∷ gs) vs s; is = refl; sits = tt; completes = h }
@@ -235,7 +235,7 @@ step_forth r m q z h =
     let first = settle_forth r.goals r.values r.tables (m ∷ q) z h in
     at first.rest.goals first.rest.values first.rest.tables first.is first.sits first.completes
   where
-    at : (gs : List Goal) (vs : List Value) (s : Tables) → settled r.goals r.values r.tables (word_in m.token) ≡ Some (state gs vs s) → SitsOn gs (word_in m.token) → Completes gs vs s (m ∷ q) z → Next r m q z
+    at : (gs : List Goal) (vs : List Value) (s : Tables) → settled r.goals r.values r.tables (symbol_in m.token) ≡ Some (state gs vs s) → SitsOn gs (symbol_in m.token) → Completes gs vs s (m ∷ q) z → Next r m q z
     at [] vs s is sits c = absurd (let bad : m ∷ q ≡ [] = c.0 in cc)
     at (goal ∷ gs) vs s is sits c =
         let forth = goal_forth goal gs vs s (m ∷ q) z sits c in

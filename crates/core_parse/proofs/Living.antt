@@ -1,10 +1,10 @@
 -- Each state whose values fit can be completed.
 use Rattle.std.proofs.Common.{◌≡◌, ℕ, ◌+◌, true, false, List, [], ◌∷◌, ◌++◌, Option, Some, None, inl, inr, refl, arith}
-use Rattle.hy_core.specs.Marks.{Marked, at, constant, plain, word, arity, value, number}
+use Rattle.hy_core.specs.Marks.{Marked, at, constant, plain, symbol, arity, value, number}
 use Rattle.hy_core.specs.Numbering.{atom_number, with_atom, variable_number, with_variable, no_tables}
 use Rattle.hy_core.specs.Annotations as notes
 use Rattle.hy_core.specs.Annotations.{IsConstant, AreConstants, AreMoreConstants, IsConstantList, IsConstantEnd, IsConstantTail, IsNote, IsAtom, IsName, IsAttributeValue, AreAttributes, AreMoreAttributes}
-use Rattle.hy_core.specs.declared.token.Word.TheVariants as w
+use Rattle.hy_core.specs.declared.token.Symbol.TheVariants as w
 use Rattle.hy_core.specs.declared.token.Sign.TheVariants as sign
 use Rattle.hy_core.specs.declared.token.Token.{Token}
 use Rattle.hy_core.specs.declared.token.Token.TheVariants as t
@@ -23,9 +23,9 @@ use Rattle.hy_core.specs.Expressions as exprs
 use Rattle.hy_core.specs.Expressions.{named_by, clause_of, IsExpr, IsClause}
 use Rattle.hy_core.specs.Grammar as mods
 use Rattle.hy_core.specs.Grammar.{IsDropped, the_module_info, module_of}
-use Rattle.core_parse.specs.Machine.{closing}
-use Rattle.core_parse.specs.Trees.{built}
-use Rattle.core_parse.proofs.Tests.{not_word}
+use Rattle.core_parse.specs.code.Pushdown.{closing}
+use Rattle.core_parse.specs.code.Trees.{built}
+use Rattle.core_parse.proofs.Tests.{not_symbol}
 use Rattle.core_parse.proofs.Meaning.{Completes, ClauseWhenThen}
 use Rattle.core_parse.proofs.Fitting.{Quiet, IfBuilt, Fits, FitsOrDone}
 use Rattle.hy_core.specs.declared.tree.Clause.{Clause}
@@ -49,7 +49,7 @@ zero = t.Integer sign.Absent []
 
 -- -| [ ] )
 empty_note : List Marked → List Marked
-empty_note q = word w.NoteBar ∷ word w.OpenList ∷ word w.CloseList ∷ word w.Close ∷ q
+empty_note q = symbol w.NoteBar ∷ symbol w.OpenList ∷ symbol w.CloseList ∷ symbol w.Close ∷ q
 
 note_of : (n : ℕ) (q : List Marked) → IsNote n (empty_note q) q
 unfolding empty_note
@@ -57,11 +57,11 @@ note_of n q = notes.note notes.no_constants
 
 -- when 0 -> 0
 short_rest : ℕ → List Marked → List Marked
-short_rest n q = word w.When ∷ at n zero ∷ word w.Arrow ∷ at n zero ∷ q
+short_rest n q = symbol w.When ∷ at n zero ∷ symbol w.Arrow ∷ at n zero ∷ q
 
 -- < > when 0 -> 0
 short_clause : ℕ → List Marked → List Marked
-short_clause n q = word w.Less ∷ word w.Greater ∷ short_rest n q
+short_clause n q = symbol w.Less ∷ symbol w.Greater ∷ short_rest n q
 
 the_zero : Expr
 the_zero = e.Int (number sign.Absent (value []))
@@ -72,19 +72,19 @@ zero_expr n s q = exprs.integer sign.Absent []
 
 clause_is : (n : ℕ) (s : Tables) (q : List Marked) → IsClause n s (short_clause n q) (clause_of [] the_zero the_zero) s q
 unfolding short_clause short_rest
-clause_is n s q = exprs.patterns pats.no_patterns (zero_expr n s (word w.Arrow ∷ at n zero ∷ q)) (zero_expr n s q)
+clause_is n s q = exprs.patterns pats.no_patterns (zero_expr n s (symbol w.Arrow ∷ at n zero ∷ q)) (zero_expr n s q)
 
 when_is : (n : ℕ) (x : Pattern) (bs : List Clause) (vs : List Value) (s : Tables) (q : List Marked) (k : List Value → Tables → List Marked → Type 0)
     → k (v.Clauses (bs ++ clause_of (x ∷ []) the_zero the_zero ∷ []) ∷ vs) s q → ClauseWhenThen n (v.Pattern x ∷ v.Clauses bs ∷ vs) s (short_rest n q) k
 unfolding short_rest
-when_is n x bs vs s q k h = (_, refl, (_, _, _, zero_expr n s (word w.Arrow ∷ at n zero ∷ q), (_, refl, (_, _, _, zero_expr n s q, h))))
+when_is n x bs vs s q k h = (_, refl, (_, _, _, zero_expr n s (symbol w.Arrow ∷ at n zero ∷ q), (_, refl, (_, _, _, zero_expr n s q, h))))
 
 not_dropped : IsDropped [] [] → ⊥
 not_dropped is = let bad = is.0 in cc
 
 -- ---- every state
 
-closes_quietly : (c : Closer) → t.Word (closing c) ≡ t.Word w.Equals → ⊥
+closes_quietly : (c : Closer) → t.Symbol (closing c) ≡ t.Symbol w.Equals → ⊥
 closes_quietly closer.Tuple is = cc
 closes_quietly closer.List is = cc
 closes_quietly closer.Arguments is = cc
@@ -116,9 +116,9 @@ or_done (goal ∷ gs) vs s h further = further h
 pub alive : (gs : List Goal) (vs : List Value) (s : Tables) → Fits gs vs → Alive gs vs s
 unfolding zero the_zero
 alive [] vs s h = absurd h
-alive (g.Word k ∷ gs) vs s h =
+alive (g.Symbol k ∷ gs) vs s h =
     let r = or_done gs vs s h (λ f. alive gs vs s f) in
-    record { tokens = word k ∷ r.tokens; tree = r.tree; completes = (_, refl, r.completes); quiet = λ quiet. not_word w.Equals (t.Word k) quiet }
+    record { tokens = symbol k ∷ r.tokens; tree = r.tree; completes = (_, refl, r.completes); quiet = λ quiet. not_symbol w.Equals (t.Symbol k) quiet }
 alive (g.Part part.Expr n ∷ gs) vs s h =
     let r = alive gs (v.Expr the_zero ∷ vs) s (h the_zero) in
     record { tokens = at n zero ∷ r.tokens; tree = r.tree; completes = (_, _, _, zero_expr n s r.tokens, r.completes); quiet = λ no. absurd no }
@@ -133,81 +133,81 @@ alive (g.Part part.Variable n ∷ gs) vs s h =
     record { tokens = plain (t.Variable []) ∷ r.tokens; tree = r.tree; completes = (_, _, _, pats.variable [], r.completes); quiet = λ no. absurd no }
 alive (g.Part part.Export n ∷ gs) (v.Names es ∷ vs) s h =
     let r = alive gs (v.Names (es ++ named_by (atom_number s []) [] ∷ []) ∷ vs) (with_atom s []) (h _) in
-    record { tokens = plain (t.Atom []) ∷ word w.Slash ∷ arity [] ∷ r.tokens; tree = r.tree; completes = (_, _, _, mods.kept (notes.name [] []) not_dropped, r.completes); quiet = λ no. absurd no }
+    record { tokens = plain (t.Atom []) ∷ symbol w.Slash ∷ arity [] ∷ r.tokens; tree = r.tree; completes = (_, _, _, mods.kept (notes.name [] []) not_dropped, r.completes); quiet = λ no. absurd no }
 alive (g.Part part.Export n ∷ gs) _ s h = absurd h
 alive (g.Part part.Attribute n ∷ gs) vs s h =
     let r = alive gs vs s h in
-    record { tokens = plain (t.Atom []) ∷ word w.Equals ∷ constant n zero ∷ r.tokens; tree = r.tree; completes = (_, _, _, notes.atom [], notes.unannotated (notes.integer sign.Absent []), r.completes); quiet = λ no. absurd no }
+    record { tokens = plain (t.Atom []) ∷ symbol w.Equals ∷ constant n zero ∷ r.tokens; tree = r.tree; completes = (_, _, _, notes.atom [], notes.unannotated (notes.integer sign.Absent []), r.completes); quiet = λ no. absurd no }
 alive (g.Parts part.Expr n c ∷ gs) vs s h =
     let r = alive gs (v.Exprs [] ∷ vs) s (h []) in
-    record { tokens = word (closing c) ∷ r.tokens; tree = r.tree; completes = (_, _, _, exprs.no_exprs, r.completes); quiet = λ no. absurd no }
+    record { tokens = symbol (closing c) ∷ r.tokens; tree = r.tree; completes = (_, _, _, exprs.no_exprs, r.completes); quiet = λ no. absurd no }
 alive (g.Parts part.Pattern n c ∷ gs) vs s h =
     let r = alive gs (v.Patterns [] ∷ vs) s (h []) in
-    record { tokens = word (closing c) ∷ r.tokens; tree = r.tree; completes = (_, _, _, pats.no_patterns, r.completes); quiet = λ no. absurd no }
+    record { tokens = symbol (closing c) ∷ r.tokens; tree = r.tree; completes = (_, _, _, pats.no_patterns, r.completes); quiet = λ no. absurd no }
 alive (g.Parts part.Constant n c ∷ gs) vs s h =
     let r = alive gs vs s h in
-    record { tokens = word (closing c) ∷ r.tokens; tree = r.tree; completes = (_, notes.no_constants, r.completes); quiet = λ no. absurd no }
+    record { tokens = symbol (closing c) ∷ r.tokens; tree = r.tree; completes = (_, notes.no_constants, r.completes); quiet = λ no. absurd no }
 alive (g.Parts part.Variable n c ∷ gs) vs s h =
     let r = alive gs (v.Variables [] ∷ vs) s (h []) in
-    record { tokens = word (closing c) ∷ r.tokens; tree = r.tree; completes = (_, _, _, pats.none, r.completes); quiet = λ no. absurd no }
+    record { tokens = symbol (closing c) ∷ r.tokens; tree = r.tree; completes = (_, _, _, pats.none, r.completes); quiet = λ no. absurd no }
 alive (g.Parts part.Export n c ∷ gs) vs s h =
     let r = alive gs (v.Names [] ∷ vs) s (h []) in
-    record { tokens = word (closing c) ∷ r.tokens; tree = r.tree; completes = (_, _, _, mods.no_exports, r.completes); quiet = λ no. absurd no }
+    record { tokens = symbol (closing c) ∷ r.tokens; tree = r.tree; completes = (_, _, _, mods.no_exports, r.completes); quiet = λ no. absurd no }
 alive (g.Parts part.Attribute n c ∷ gs) vs s h =
     let r = alive gs vs s h in
-    record { tokens = word (closing c) ∷ r.tokens; tree = r.tree; completes = (_, notes.none, r.completes); quiet = λ no. absurd no }
+    record { tokens = symbol (closing c) ∷ r.tokens; tree = r.tree; completes = (_, notes.none, r.completes); quiet = λ no. absurd no }
 alive (g.MoreParts part.Expr n c ∷ gs) (v.Expr x ∷ v.Exprs xs ∷ vs) s h =
     let r = alive gs (v.Exprs ((xs ++ x ∷ []) ++ []) ∷ vs) s (h _) in
-    record { tokens = word (closing c) ∷ r.tokens; tree = r.tree; completes = (_, _, _, exprs.no_more, r.completes); quiet = λ _. closes_quietly c }
+    record { tokens = symbol (closing c) ∷ r.tokens; tree = r.tree; completes = (_, _, _, exprs.no_more, r.completes); quiet = λ _. closes_quietly c }
 alive (g.MoreParts part.Pattern n c ∷ gs) (v.Pattern x ∷ v.Patterns xs ∷ vs) s h =
     let r = alive gs (v.Patterns ((xs ++ x ∷ []) ++ []) ∷ vs) s (h _) in
-    record { tokens = word (closing c) ∷ r.tokens; tree = r.tree; completes = (_, _, _, pats.no_more, r.completes); quiet = λ _. closes_quietly c }
+    record { tokens = symbol (closing c) ∷ r.tokens; tree = r.tree; completes = (_, _, _, pats.no_more, r.completes); quiet = λ _. closes_quietly c }
 alive (g.MoreParts part.Variable n c ∷ gs) (v.Variable x ∷ v.Variables xs ∷ vs) s h =
     let r = alive gs (v.Variables ((xs ++ x ∷ []) ++ []) ∷ vs) s (h _) in
-    record { tokens = word (closing c) ∷ r.tokens; tree = r.tree; completes = (_, _, _, pats.no_more, r.completes); quiet = λ _. closes_quietly c }
+    record { tokens = symbol (closing c) ∷ r.tokens; tree = r.tree; completes = (_, _, _, pats.no_more, r.completes); quiet = λ _. closes_quietly c }
 alive (g.MoreParts part.Export n c ∷ gs) (v.Names es ∷ vs) s h =
     let r = alive gs (v.Names (es ++ []) ∷ vs) s (h _) in
-    record { tokens = word (closing c) ∷ r.tokens; tree = r.tree; completes = (_, _, _, mods.no_more, r.completes); quiet = λ _. closes_quietly c }
+    record { tokens = symbol (closing c) ∷ r.tokens; tree = r.tree; completes = (_, _, _, mods.no_more, r.completes); quiet = λ _. closes_quietly c }
 alive (g.MoreParts part.Constant n c ∷ gs) vs s h =
     let r = alive gs vs s h in
-    record { tokens = word (closing c) ∷ r.tokens; tree = r.tree; completes = (_, notes.no_more, r.completes); quiet = λ _. closes_quietly c }
+    record { tokens = symbol (closing c) ∷ r.tokens; tree = r.tree; completes = (_, notes.no_more, r.completes); quiet = λ _. closes_quietly c }
 alive (g.MoreParts part.Attribute n c ∷ gs) vs s h =
     let r = alive gs vs s h in
-    record { tokens = word (closing c) ∷ r.tokens; tree = r.tree; completes = (_, notes.no_more, r.completes); quiet = λ _. closes_quietly c }
+    record { tokens = symbol (closing c) ∷ r.tokens; tree = r.tree; completes = (_, notes.no_more, r.completes); quiet = λ _. closes_quietly c }
 alive (g.MoreParts _ n c ∷ gs) _ s h = absurd h
 alive (g.Heads part.Expr n ∷ gs) (v.Exprs xs ∷ vs) s h =
     let r = alive gs _ s (h _) in
-    record { tokens = word w.CloseList ∷ r.tokens; tree = r.tree; completes = (_, _, _, exprs.nil, r.completes); quiet = λ no. absurd no }
+    record { tokens = symbol w.CloseList ∷ r.tokens; tree = r.tree; completes = (_, _, _, exprs.nil, r.completes); quiet = λ no. absurd no }
 alive (g.Heads part.Pattern n ∷ gs) (v.Patterns xs ∷ vs) s h =
     let r = alive gs _ s (h _) in
-    record { tokens = word w.CloseList ∷ r.tokens; tree = r.tree; completes = (_, _, _, pats.nil, r.completes); quiet = λ no. absurd no }
+    record { tokens = symbol w.CloseList ∷ r.tokens; tree = r.tree; completes = (_, _, _, pats.nil, r.completes); quiet = λ no. absurd no }
 alive (g.Heads part.Constant n ∷ gs) vs s h =
     let r = alive gs vs s h in
-    record { tokens = word w.CloseList ∷ r.tokens; tree = r.tree; completes = (_, notes.nil, r.completes); quiet = λ no. absurd no }
+    record { tokens = symbol w.CloseList ∷ r.tokens; tree = r.tree; completes = (_, notes.nil, r.completes); quiet = λ no. absurd no }
 alive (g.Heads _ n ∷ gs) _ s h = absurd h
 alive (g.MoreHeads part.Expr n ∷ gs) (v.Expr x ∷ v.Exprs xs ∷ vs) s h =
     let r = alive gs _ s (h _) in
-    record { tokens = word w.CloseList ∷ r.tokens; tree = r.tree; completes = (_, _, _, _, exprs.closed, r.completes); quiet = λ _ is. cc }
+    record { tokens = symbol w.CloseList ∷ r.tokens; tree = r.tree; completes = (_, _, _, _, exprs.closed, r.completes); quiet = λ _ is. cc }
 alive (g.MoreHeads part.Pattern n ∷ gs) (v.Pattern x ∷ v.Patterns xs ∷ vs) s h =
     let r = alive gs _ s (h _) in
-    record { tokens = word w.CloseList ∷ r.tokens; tree = r.tree; completes = (_, _, _, _, pats.closed, r.completes); quiet = λ _ is. cc }
+    record { tokens = symbol w.CloseList ∷ r.tokens; tree = r.tree; completes = (_, _, _, _, pats.closed, r.completes); quiet = λ _ is. cc }
 alive (g.MoreHeads part.Constant n ∷ gs) vs s h =
     let r = alive gs vs s h in
-    record { tokens = word w.CloseList ∷ r.tokens; tree = r.tree; completes = (_, notes.closed, r.completes); quiet = λ _ is. cc }
+    record { tokens = symbol w.CloseList ∷ r.tokens; tree = r.tree; completes = (_, notes.closed, r.completes); quiet = λ _ is. cc }
 alive (g.MoreHeads _ n ∷ gs) _ s h = absurd h
 alive (g.Tail part.Expr n ∷ gs) (v.Exprs xs ∷ vs) s h =
     let r = alive gs _ s (h _) in
-    record { tokens = at (n + 1) zero ∷ word w.CloseList ∷ r.tokens; tree = r.tree; completes = (_, _, _, exprs.other_tail (λ is. cc) (zero_expr (n + 1) s (word w.CloseList ∷ r.tokens)), r.completes); quiet = λ no. absurd no }
+    record { tokens = at (n + 1) zero ∷ symbol w.CloseList ∷ r.tokens; tree = r.tree; completes = (_, _, _, exprs.other_tail (λ is. cc) (zero_expr (n + 1) s (symbol w.CloseList ∷ r.tokens)), r.completes); quiet = λ no. absurd no }
 alive (g.Tail part.Pattern n ∷ gs) (v.Patterns xs ∷ vs) s h =
     let r = alive gs _ s (h _) in
-    record { tokens = at (n + 1) zero ∷ word w.CloseList ∷ r.tokens; tree = r.tree; completes = (_, _, _, pats.other_tail (λ is. cc) (pats.integer sign.Absent []), r.completes); quiet = λ no. absurd no }
+    record { tokens = at (n + 1) zero ∷ symbol w.CloseList ∷ r.tokens; tree = r.tree; completes = (_, _, _, pats.other_tail (λ is. cc) (pats.integer sign.Absent []), r.completes); quiet = λ no. absurd no }
 alive (g.Tail part.Constant n ∷ gs) vs s h =
     let r = alive gs vs s h in
-    record { tokens = constant (n + 1) zero ∷ word w.CloseList ∷ r.tokens; tree = r.tree; completes = (_, notes.other_tail (λ is. cc) (notes.integer sign.Absent []), r.completes); quiet = λ no. absurd no }
+    record { tokens = constant (n + 1) zero ∷ symbol w.CloseList ∷ r.tokens; tree = r.tree; completes = (_, notes.other_tail (λ is. cc) (notes.integer sign.Absent []), r.completes); quiet = λ no. absurd no }
 alive (g.Tail _ n ∷ gs) _ s h = absurd h
 alive (g.NameOrAtom ∷ gs) (v.Atom a ∷ vs) s h =
     let r = alive gs (v.Expr (e.Name (named_by a [])) ∷ vs) s (h _) in
-    record { tokens = word w.Slash ∷ arity [] ∷ r.tokens; tree = r.tree; completes = inr (_, refl, ([], (_, refl, r.completes))); quiet = λ no. absurd no }
+    record { tokens = symbol w.Slash ∷ arity [] ∷ r.tokens; tree = r.tree; completes = inr (_, refl, ([], (_, refl, r.completes))); quiet = λ no. absurd no }
 alive (g.NameOrAtom ∷ gs) _ s h = absurd h
 alive (g.Arity ∷ gs) (v.Atom a ∷ vs) s h =
     let r = alive gs (v.Expr (e.Name (named_by a [])) ∷ vs) s (h _) in
@@ -219,10 +219,10 @@ alive (g.Alias n ∷ gs) (v.Pattern x ∷ vs) s h =
 alive (g.Alias n ∷ gs) _ s h = absurd h
 alive (g.Bindings n ∷ gs) vs s h =
     let r = alive gs (v.Variables [] ∷ vs) s (h []) in
-    record { tokens = word w.Less ∷ word w.Greater ∷ r.tokens; tree = r.tree; completes = (_, _, _, pats.many pats.none, r.completes); quiet = λ no. absurd no }
+    record { tokens = symbol w.Less ∷ symbol w.Greater ∷ r.tokens; tree = r.tree; completes = (_, _, _, pats.many pats.none, r.completes); quiet = λ no. absurd no }
 alive (g.Clauses n c ∷ gs) (v.Clauses bs ∷ vs) s h =
     let r = alive gs (v.Clauses (bs ++ []) ∷ vs) s (h _) in
-    record { tokens = word (closing c) ∷ r.tokens; tree = r.tree; completes = (_, _, _, exprs.no_clauses, r.completes); quiet = λ no. absurd no }
+    record { tokens = symbol (closing c) ∷ r.tokens; tree = r.tree; completes = (_, _, _, exprs.no_clauses, r.completes); quiet = λ no. absurd no }
 alive (g.Clauses n c ∷ gs) _ s h = absurd h
 alive (g.Clause n false ∷ gs) (v.Clauses bs ∷ vs) s h =
     let r = alive gs (v.Clauses (bs ++ clause_of [] the_zero the_zero ∷ []) ∷ vs) s (h.0 _) in
@@ -287,22 +287,22 @@ alive (g.InfoArity ∷ gs) vs s h =
     record { tokens = arity [] ∷ r.tokens; tree = r.tree; completes = ([], (_, refl, inr ((refl, omega arith), r.completes))); quiet = λ no. absurd no }
 alive (g.Functions n ∷ gs) (v.Functions es ∷ vs) s h =
     let r = alive gs (v.Functions (es ++ []) ∷ vs) s (h _) in
-    record { tokens = word w.In ∷ r.tokens; tree = r.tree; completes = (_, _, _, exprs.no_functions, r.completes); quiet = λ no. absurd no }
+    record { tokens = symbol w.In ∷ r.tokens; tree = r.tree; completes = (_, _, _, exprs.no_functions, r.completes); quiet = λ no. absurd no }
 alive (g.Functions n ∷ gs) _ s h = absurd h
 alive (g.FunctionName n ∷ gs) vs s h =
     let r = alive gs (v.Name (named_by (atom_number s []) []) ∷ vs) (with_atom s []) (h _) in
-    record { tokens = plain (t.Atom []) ∷ word w.Slash ∷ arity [] ∷ r.tokens; tree = r.tree; completes = (_, _, _, notes.name [] [], r.completes); quiet = λ no. absurd no }
+    record { tokens = plain (t.Atom []) ∷ symbol w.Slash ∷ arity [] ∷ r.tokens; tree = r.tree; completes = (_, _, _, notes.name [] [], r.completes); quiet = λ no. absurd no }
 alive (g.Definitions n ∷ gs) (v.Functions es ∷ vs) s h =
     let r = or_done gs (v.Functions (es ++ []) ∷ vs) s (h _) (λ f. alive gs (v.Functions (es ++ []) ∷ vs) s f) in
-    record { tokens = word w.End ∷ r.tokens; tree = r.tree; completes = (_, _, _, mods.no_definitions, r.completes); quiet = λ no. absurd no }
+    record { tokens = symbol w.End ∷ r.tokens; tree = r.tree; completes = (_, _, _, mods.no_definitions, r.completes); quiet = λ no. absurd no }
 alive (g.Definitions n ∷ gs) _ s h = absurd h
 alive (g.DefinitionName n ∷ gs) vs s h =
     let r = alive gs (v.Name (named_by (atom_number s []) []) ∷ vs) (with_atom s []) (h.0 _) in
-    record { tokens = plain (t.Atom []) ∷ word w.Slash ∷ arity [] ∷ r.tokens; tree = r.tree; completes = (_, _, _, notes.name [] [], inl (not_dropped, r.completes)); quiet = λ no. absurd no }
+    record { tokens = plain (t.Atom []) ∷ symbol w.Slash ∷ arity [] ∷ r.tokens; tree = r.tree; completes = (_, _, _, notes.name [] [], inl (not_dropped, r.completes)); quiet = λ no. absurd no }
 alive (g.FunctionBody n ∷ gs) vs s h =
     let r = alive gs (v.Expr the_zero ∷ v.Variables [] ∷ vs) s (h [] the_zero) in
     record {
-      tokens = word w.Fun ∷ word w.Open ∷ word w.Close ∷ word w.Arrow ∷ at n zero ∷ r.tokens;
+      tokens = symbol w.Fun ∷ symbol w.Open ∷ symbol w.Close ∷ symbol w.Arrow ∷ at n zero ∷ r.tokens;
       tree = r.tree;
       completes = (_, _, _, _, exprs.function_of pats.none (zero_expr n s r.tokens), r.completes);
       quiet = λ no. absurd no;
@@ -310,7 +310,7 @@ alive (g.FunctionBody n ∷ gs) vs s h =
 alive (g.Module n ∷ gs) vs s h =
     let r = or_done gs (v.Functions [] ∷ v.Names [] ∷ v.Atom (atom_number s []) ∷ vs) (with_atom s []) (h [] [] _) (λ f. alive gs (v.Functions [] ∷ v.Names [] ∷ v.Atom (atom_number s []) ∷ vs) (with_atom s []) f) in
     record {
-      tokens = at n (t.Word w.Module) ∷ plain (t.Atom []) ∷ word w.OpenList ∷ word w.CloseList ∷ word w.Attributes ∷ word w.OpenList ∷ word w.CloseList ∷ word w.End ∷ r.tokens;
+      tokens = at n (t.Symbol w.Module) ∷ plain (t.Atom []) ∷ symbol w.OpenList ∷ symbol w.CloseList ∷ symbol w.Attributes ∷ symbol w.OpenList ∷ symbol w.CloseList ∷ symbol w.End ∷ r.tokens;
       tree = r.tree;
       completes = (_, _, mods.plain_module [] mods.no_exports notes.none mods.no_definitions, r.completes);
       quiet = λ no. absurd no;

@@ -1,15 +1,15 @@
 -- What is still to be read: the meaning of goals, in the grammar's terms.
 use Rattle.std.proofs.Common.{◌≡◌, ℕ, ◌+◌, Bool, true, false, List, [], ◌∷◌, ◌++◌, Option, Some, None, ◌⊎◌}
-use Rattle.hy_core.specs.Marks.{Marked, plain, word, arity}
+use Rattle.hy_core.specs.Marks.{Marked, plain, symbol, arity}
 use Rattle.hy_core.specs.Numbering.{atom_number, with_atom, no_tables}
 use Rattle.hy_core.specs.Annotations.{IsConstant, AreConstants, AreMoreConstants, IsConstantList, IsConstantEnd, IsConstantTail, IsNote, IsAtom, IsName, IsAttributeValue, AreAttributes, AreMoreAttributes}
 use Rattle.hy_core.specs.Patterns.{IsVariable, AreVariables, AreMoreVariables, BindsValues, IsNotBefore, IsPattern, ArePatterns, AreMorePatterns, IsPatternList, IsPatternEnd, IsPatternTail}
 use Rattle.hy_core.specs.Expressions.{named_by, IsExpr, AreExprs, AreMoreExprs, IsList, IsListEnd, IsTail, IsClause, AreClauses, IsFunction, AreFunctions}
 use Rattle.hy_core.specs.Grammar.{the_module_info, IsDropped, IsExport, AreExports, AreMoreExports, AreDefinitions, IsModuleAt}
-use Rattle.core_parse.specs.Machine.{closing, finished}
-use Rattle.core_parse.specs.Trees.{behind_heads, behind_head_patterns, built}
-use Rattle.hy_core.specs.declared.token.Word.{Word}
-use Rattle.hy_core.specs.declared.token.Word.TheVariants as w
+use Rattle.core_parse.specs.code.Pushdown.{closing, finished}
+use Rattle.core_parse.specs.code.Trees.{behind_heads, behind_head_patterns, built}
+use Rattle.hy_core.specs.declared.token.Symbol.{Symbol}
+use Rattle.hy_core.specs.declared.token.Symbol.TheVariants as w
 use Rattle.hy_core.specs.declared.token.Token.TheVariants as t
 use Rattle.hy_core.specs.declared.tables.Tables.{Tables}
 use Rattle.hy_core.specs.declared.tree.Pattern.{Pattern}
@@ -38,8 +38,8 @@ Rest = List Value → Tables → List Marked → Type 0
 abbrev pub MarkThen : Marked → List Marked → (List Marked → Type 0) → Type 0
 MarkThen m ms k = (q : List Marked) × (ms ≡ m ∷ q) × k q
 
-abbrev pub WordThen : Word → List Marked → (List Marked → Type 0) → Type 0
-WordThen x ms k = MarkThen (word x) ms k
+abbrev pub WordThen : Symbol → List Marked → (List Marked → Type 0) → Type 0
+WordThen x ms k = MarkThen (symbol x) ms k
 
 abbrev pub OnBuilt : Option (List Value × Tables) → (List Value → Tables → Type 0) → Type 0
 OnBuilt None k = ⊥
@@ -59,7 +59,7 @@ ExportThen n (v.Names es ∷ vs) s ms k = (xs : List FunName) × (u : Tables) ×
 ExportThen n vs s ms k = ⊥
 
 abbrev pub AttributeThen : ℕ → List Value → Tables → List Marked → Rest → Type 0
-AttributeThen n vs s ms k = (key : List ℕ) × (q r : List Marked) × IsAtom n ms key (word w.Equals ∷ q) × IsAttributeValue n q r × k vs s r
+AttributeThen n vs s ms k = (key : List ℕ) × (q r : List Marked) × IsAtom n ms key (symbol w.Equals ∷ q) × IsAttributeValue n q r × k vs s r
 
 abbrev pub PartThen : Part → ℕ → List Value → Tables → List Marked → Rest → Type 0
 PartThen part.Expr n vs s ms k = ExprThen n vs s ms k
@@ -106,9 +106,9 @@ MoreHeadsThen part.Constant n vs s ms k = (q : List Marked) × IsConstantEnd n m
 MoreHeadsThen _ n vs s ms k = ⊥
 
 abbrev pub TailThen : Part → ℕ → List Value → Tables → List Marked → Rest → Type 0
-TailThen part.Expr n (v.Exprs xs ∷ vs) s ms k = (x : Expr) × (u : Tables) × (q : List Marked) × IsTail n s ms x u (word w.CloseList ∷ q) × k (v.Expr (behind_heads xs x) ∷ vs) u q
-TailThen part.Pattern n (v.Patterns xs ∷ vs) s ms k = (x : Pattern) × (u : Tables) × (q : List Marked) × IsPatternTail n s ms x u (word w.CloseList ∷ q) × k (v.Pattern (behind_head_patterns xs x) ∷ vs) u q
-TailThen part.Constant n vs s ms k = (q : List Marked) × IsConstantTail n ms (word w.CloseList ∷ q) × k vs s q
+TailThen part.Expr n (v.Exprs xs ∷ vs) s ms k = (x : Expr) × (u : Tables) × (q : List Marked) × IsTail n s ms x u (symbol w.CloseList ∷ q) × k (v.Expr (behind_heads xs x) ∷ vs) u q
+TailThen part.Pattern n (v.Patterns xs ∷ vs) s ms k = (x : Pattern) × (u : Tables) × (q : List Marked) × IsPatternTail n s ms x u (symbol w.CloseList ∷ q) × k (v.Pattern (behind_head_patterns xs x) ∷ vs) u q
+TailThen part.Constant n vs s ms k = (q : List Marked) × IsConstantTail n ms (symbol w.CloseList ∷ q) × k vs s q
 TailThen _ n vs s ms k = ⊥
 
 abbrev pub ArityThen : List Value → Tables → List Marked → Rest → Type 0
@@ -199,7 +199,7 @@ abbrev pub tables_of : Module → Tables
 tables_of z = record { atoms = z.atoms; variables = z.variables }
 
 abbrev pub Then : Goal → List Value → Tables → List Marked → Rest → Type 0
-Then (g.Word x) vs s ms k = WordThen x ms (λ q. k vs s q)
+Then (g.Symbol x) vs s ms k = WordThen x ms (λ q. k vs s q)
 Then (g.Part o n) vs s ms k = PartThen o n vs s ms k
 Then (g.Parts o n c) vs s ms k = PartsThen o n c vs s ms k
 Then (g.MoreParts o n c) vs s ms k = MorePartsThen o n c vs s ms k

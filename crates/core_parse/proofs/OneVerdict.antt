@@ -10,8 +10,9 @@ use Rattle.hy_core.specs.declared.refusal.RefusalKind.{RefusalKind}
 use Rattle.hy_core.specs.declared.refusal.RefusalKind.TheVariants as k
 use Rattle.hy_core.specs.declared.tree.Module.{Module}
 use Rattle.core_scan.proofs.OneLexing.{one_lexing}
-use Rattle.core_parse.specs.Machine.{run, start}
-use Rattle.core_parse.specs.Answers.{Verdict, verdict}
+use Rattle.core_parse.specs.code.Pushdown.{run, start}
+use Rattle.core_parse.specs.Answers.{Verdict}
+use Rattle.core_parse.specs.code.Verdicts.{verdict}
 use Rattle.core_parse.proofs.WholeText.{reads_run, exactly}
 
 -- the text is too long, or refused by its tokens

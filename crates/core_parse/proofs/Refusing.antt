@@ -5,7 +5,7 @@ use Rattle.hy_core.specs.declared.token.Token.{Token}
 use Rattle.hy_core.specs.declared.tree.Module.{Module}
 use Rattle.hy_core.specs.declared.refusal.RefusalKind.{RefusalKind}
 use Rattle.hy_core.specs.declared.refusal.RefusalKind.TheVariants as k
-use Rattle.core_parse.specs.Machine.{checked, stepped, ended, ended_at, Reading, goes_on, run}
+use Rattle.core_parse.specs.code.Pushdown.{checked, stepped, ended, ended_at, Reading, goes_on, run}
 use Rattle.core_parse.proofs.ForthGoals.{step_forth}
 use Rattle.core_parse.proofs.Living.{alive_or}
 use Rattle.core_parse.proofs.Exact.{Lang, FitsIn, Looked, sound, deep, range, looked, checked_deep, checked_range, never_unexpected, View, stuck, moves, view, step_of, ended_of, not_over}

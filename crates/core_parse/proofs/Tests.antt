@@ -3,18 +3,18 @@ use Rattle.std.proofs.Common.{◌≡◌, ℕ, Bool, true, false, List, [], ◌�
 use Rattle.std.proofs.lemmas.Bool.{eqb-true}
 use Rattle.hy_core.specs.Marks.{Marked}
 use Rattle.hy_core.specs.Patterns.{IsNotBefore}
-use Rattle.core_parse.specs.Machine.{code, is_word, word_in, is_next, closing}
-use Rattle.hy_core.specs.declared.token.Word.{Word}
-use Rattle.hy_core.specs.declared.token.Word.TheVariants as w
+use Rattle.core_parse.specs.code.Pushdown.{code, is_symbol, symbol_in, is_next, closing}
+use Rattle.hy_core.specs.declared.token.Symbol.{Symbol}
+use Rattle.hy_core.specs.declared.token.Symbol.TheVariants as w
 use Rattle.hy_core.specs.declared.token.Token.{Token}
 use Rattle.hy_core.specs.declared.token.Token.TheVariants as t
 use Rattle.core_parse.specs.declared.state.Closer.{Closer}
 use Rattle.core_parse.specs.declared.state.Closer.TheVariants as closer
 
--- ---- words
+-- ---- symbols
 
-abbrev word_of : ℕ → Option Word
-word_of n =
+abbrev symbol_of : ℕ → Option Symbol
+symbol_of n =
     if n == 0 then Some w.After
     else if n == 1 then Some w.Apply
     else if n == 2 then Some w.Attributes
@@ -49,34 +49,34 @@ word_of n =
     else if n == 31 then Some w.Arrow
     else Some w.NoteBar
 
-word_of-code : (k : Word) → word_of (code k) ≡ Some k
-word_of-code w.After = refl
-word_of-code _ = refl
+symbol_of-code : (k : Symbol) → symbol_of (code k) ≡ Some k
+symbol_of-code w.After = refl
+symbol_of-code _ = refl
 
-same_word : (a c : Word) → code a ≡ code c → a ≡ c
-same_word a c h = let both : Some a ≡ Some c = sym (word_of-code a) ∙ ap word_of h ∙ word_of-code c in cc
+same_symbol : (a c : Symbol) → code a ≡ code c → a ≡ c
+same_symbol a c h = let both : Some a ≡ Some c = sym (symbol_of-code a) ∙ ap symbol_of h ∙ symbol_of-code c in cc
 
-pub word_at : (k : Word) (token : Token) → is_word k token ≡ true → token ≡ t.Word k
-word_at k (t.Word found) h = ap t.Word (same_word found k (eqb-true (code found) (code k) h))
-word_at k _ h = absurd cc
+pub symbol_at : (k : Symbol) (token : Token) → is_symbol k token ≡ true → token ≡ t.Symbol k
+symbol_at k (t.Symbol found) h = ap t.Symbol (same_symbol found k (eqb-true (code found) (code k) h))
+symbol_at k _ h = absurd cc
 
-pub is_itself : (k : Word) → is_word k (t.Word k) ≡ true
+pub is_itself : (k : Symbol) → is_symbol k (t.Symbol k) ≡ true
 is_itself w.After = refl
 is_itself _ = refl
 
-pub is_not : (k : Word) (token : Token) → (token ≡ t.Word k → ⊥) → is_word k token ≡ false
-is_not k token never = test (is_word k token) refl
+pub is_not : (k : Symbol) (token : Token) → (token ≡ t.Symbol k → ⊥) → is_symbol k token ≡ false
+is_not k token never = test (is_symbol k token) refl
   where
-    test : (b : Bool) → is_word k token ≡ b → b ≡ false
+    test : (b : Bool) → is_symbol k token ≡ b → b ≡ false
     test false h = refl
-    test true h = absurd (never (word_at k token h))
+    test true h = absurd (never (symbol_at k token h))
 
-pub not_word : (k : Word) (token : Token) → is_word k token ≡ false → token ≡ t.Word k → ⊥
-not_word k token h is = let bad : true ≡ false = sym (ap (is_word k) is ∙ is_itself k) ∙ h in cc
+pub not_symbol : (k : Symbol) (token : Token) → is_symbol k token ≡ false → token ≡ t.Symbol k → ⊥
+not_symbol k token h is = let bad : true ≡ false = sym (ap (is_symbol k) is ∙ is_itself k) ∙ h in cc
 
 -- ---- what closes a list of parts
 
-abbrev pub is_closing : Word → Bool
+abbrev pub is_closing : Symbol → Bool
 is_closing w.CloseTuple = true
 is_closing w.CloseList = true
 is_closing w.Close = true
@@ -86,7 +86,7 @@ is_closing w.After = true
 is_closing _ = false
 
 abbrev pub is_closer : Token → Bool
-is_closer (t.Word k) = is_closing k
+is_closer (t.Symbol k) = is_closing k
 is_closer _ = false
 
 closing_closes : (c : Closer) → is_closing (closing c) ≡ true
@@ -98,23 +98,23 @@ abbrev pub Opens : List Marked → Type 0
 Opens [] = ⊥
 Opens (m ∷ ms) = is_closer m.token ≡ false
 
-pub not_closing : (c : Closer) (token : Token) → is_closer token ≡ false → is_word (closing c) token ≡ false
+pub not_closing : (c : Closer) (token : Token) → is_closer token ≡ false → is_symbol (closing c) token ≡ false
 not_closing c token h = is_not (closing c) token (λ is. let bad : true ≡ false = sym (ap is_closer is ∙ closing_closes c) ∙ h in cc)
 
 -- ---- the next token
 
-abbrev pub first_of : List Marked → Option Word
+abbrev pub first_of : List Marked → Option Symbol
 first_of [] = None
-first_of (m ∷ ms) = word_in m.token
+first_of (m ∷ ms) = symbol_in m.token
 
-next_is : (k : Word) (token : Token) → is_next k (word_in token) ≡ is_word k token
-next_is k (t.Word found) = refl
+next_is : (k : Symbol) (token : Token) → is_next k (symbol_in token) ≡ is_symbol k token
+next_is k (t.Symbol found) = refl
 next_is k _ = refl
 
-pub not_next : (k : Word) (ms : List Marked) → IsNotBefore k ms → is_next k (first_of ms) ≡ false
+pub not_next : (k : Symbol) (ms : List Marked) → IsNotBefore k ms → is_next k (first_of ms) ≡ false
 not_next k [] h = refl
 not_next k (m ∷ ms) h = next_is k m.token ∙ is_not k m.token h
 
-pub next_not : (k : Word) (ms : List Marked) → is_next k (first_of ms) ≡ false → IsNotBefore k ms
+pub next_not : (k : Symbol) (ms : List Marked) → is_next k (first_of ms) ≡ false → IsNotBefore k ms
 next_not k [] h = tt
-next_not k (m ∷ ms) h = not_word k m.token (sym (next_is k m.token) ∙ h)
+next_not k (m ∷ ms) h = not_symbol k m.token (sym (next_is k m.token) ∙ h)

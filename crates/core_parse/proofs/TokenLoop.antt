@@ -3,7 +3,7 @@ use Rattle.std.proofs.Common.{◌≡◌, ℕ, suc, ◌+◌, ◌<◌, List, [], �
 use Rattle.std.proofs.Math.Seq.{drop-cons, drop-length}
 use Rattle.std.proofs.lemmas.List.{drop-map}
 use Rattle.hy_core.specs.Reading.{tokens_in}
-use Rattle.core_parse.specs.Machine.{stepped, ended, ended_at, Reading, run}
+use Rattle.core_parse.specs.code.Pushdown.{stepped, ended, ended_at, Reading, run}
 use Rattle.hy_core.specs.declared.token.Token.{Token}
 use Rattle.hy_core.specs.declared.token.Lexeme.{Lexeme}
 use Rattle.hy_core.specs.declared.refusal.RefusalKind.{RefusalKind}

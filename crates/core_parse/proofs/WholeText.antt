@@ -16,8 +16,9 @@ use Rattle.hy_core.specs.declared.refusal.RefusalKind.{RefusalKind}
 use Rattle.hy_core.specs.declared.refusal.RefusalKind.TheVariants as k
 use Rattle.hy_core.specs.declared.tree.Module.{Module}
 use Rattle.core_scan.proofs.OneLexing.{one_lexing}
-use Rattle.core_parse.specs.Machine.{Reading, run, start}
-use Rattle.core_parse.specs.Answers.{Verdict, Gives, IfRefused, left_at, behind, place_of, refused_as, verdict, GivesText, too_long, of_tokens, no_memory}
+use Rattle.core_parse.specs.code.Pushdown.{Reading, run, start}
+use Rattle.core_parse.specs.Answers.{Verdict, Gives, IfRefused}
+use Rattle.core_parse.specs.code.Verdicts.{left_at, behind, place_of, refused_as, verdict, GivesText, too_long, of_tokens, no_memory}
 use Rattle.core_parse.proofs.Meaning.{tables_of}
 use Rattle.core_parse.proofs.Exact.{Lang, FitsIn, run_only, run_found}
 use Rattle.core_parse.proofs.Refusing.{BeginsBy, GoesBy, StandsBy, UnexpectedBy, EndedBy, IsDeep, IsOut, At, Why, run_refused, why_run, ended_run}

@@ -1,5 +1,2 @@
-pub mod Tops
-pub mod Steps
-pub mod Trees
-pub mod Machine
 pub mod Answers
+pub mod code

@@ -1,8 +1,8 @@
 ghost use Rattle.std.specs.Prelude.{◌≡◌, MatchResult, None};
-ghost use Rattle.core_parse.specs.Machine.{checked, arity_mark, arity_moved, function_arity_moved, info_arity_moved, export_arity_moved, info_export_moved};
-ghost use Rattle.core_parse.specs.Trees.{name_built, function_name_built, name_added, export_built, names_kept};
-ghost use Rattle.core_parse.specs.Steps.{GivesWhere};
-ghost use Rattle.core_parse.specs.Answers.{GivesState};
+ghost use Rattle.core_parse.specs.code.Pushdown.{checked, arity_mark, arity_moved, function_arity_moved, info_arity_moved, export_arity_moved, info_export_moved};
+ghost use Rattle.core_parse.specs.code.Trees.{name_built, function_name_built, name_added, export_built, names_kept};
+ghost use Rattle.core_parse.specs.code.Steps.{GivesWhere};
+ghost use Rattle.core_parse.specs.code.Verdicts.{GivesState};
 
 use crate::answer::{StepFault, UNEXPECTED};
 use crate::interning::number_of;
@@ -19,7 +19,9 @@ const OUT_OF_RANGE: StepFault = StepFault::Refused(RefusalKind::NumberRange);
 
 /// The arity of a function's name whose atom is on top.
 pub fn take_arity(token: &Token, state: &mut State) -> Result<(), StepFault>
-    ensures { GivesState result state.new (checked (arity_mark token.now) (arity_moved state.old.goals state.old.values state.old.tables token.now)) }
+    ensures { GivesState result state.new
+        (checked (arity_mark token.now)
+        (arity_moved state.old.goals state.old.values state.old.tables token.now)) }
 {
     match token {
         Token::Integer(Sign::Absent, digits) => {
@@ -36,7 +38,9 @@ pub fn take_arity(token: &Token, state: &mut State) -> Result<(), StepFault>
 
 /// The arity of a function that is defined.
 pub fn take_function_arity(token: &Token, state: &mut State) -> Result<(), StepFault>
-    ensures { GivesState result state.new (checked (arity_mark token.now) (function_arity_moved state.old.goals state.old.values state.old.tables token.now)) }
+    ensures { GivesState result state.new
+        (checked (arity_mark token.now)
+        (function_arity_moved state.old.goals state.old.values state.old.tables token.now)) }
 {
     match token {
         Token::Integer(Sign::Absent, digits) => {
@@ -49,10 +53,12 @@ pub fn take_function_arity(token: &Token, state: &mut State) -> Result<(), StepF
     }
 }
 
-/// The arity of a definition of `'module_info'`, which is dropped where it is 0 or 1: its names then go
-/// into tables of their own.
+/// The arity of a definition of `'module_info'`, which is dropped where it is 0 or 1: its names
+/// then go into tables of their own.
 pub fn take_info_arity(alloc: Global, token: &Token, state: &mut State) -> Result<(), StepFault>
-    ensures { GivesState result state.new (checked (arity_mark token.now) (info_arity_moved state.old.goals state.old.values state.old.tables token.now)) }
+    ensures { GivesState result state.new
+        (checked (arity_mark token.now)
+        (info_arity_moved state.old.goals state.old.values state.old.tables token.now)) }
 {
     match token {
         Token::Integer(Sign::Absent, digits) => {
@@ -74,7 +80,7 @@ pub fn take_info_arity(alloc: Global, token: &Token, state: &mut State) -> Resul
     }
 }
 
-/// Puts a name behind those before it.
+// Puts a name behind those before it.
 fn add_name(name: FunName, values: &mut Stack<Value>) -> Result<(), StepFault>
     ensures { GivesWhere result values.new (name_added name values.old) }
 {
@@ -86,7 +92,9 @@ fn add_name(name: FunName, values: &mut Stack<Value>) -> Result<(), StepFault>
 
 /// The arity of an exported name whose atom is on top.
 pub fn take_export_arity(token: &Token, state: &mut State) -> Result<(), StepFault>
-    ensures { GivesState result state.new (checked (arity_mark token.now) (export_arity_moved state.old.goals state.old.values state.old.tables token.now)) }
+    ensures { GivesState result state.new
+        (checked (arity_mark token.now)
+        (export_arity_moved state.old.goals state.old.values state.old.tables token.now)) }
 {
     match token {
         Token::Integer(Sign::Absent, digits) => match arity(digits.as_slice()) {
@@ -104,7 +112,7 @@ pub fn take_export_arity(token: &Token, state: &mut State) -> Result<(), StepFau
     }
 }
 
-/// Leaves the names that are on top.
+// Leaves the names that are on top.
 fn keep_names(values: &mut Stack<Value>) -> Result<(), StepFault>
     ensures { GivesWhere result values.new (names_kept values.old) }
 {
@@ -115,7 +123,9 @@ fn keep_names(values: &mut Stack<Value>) -> Result<(), StepFault>
 
 /// The arity of an export `'module_info'`, which is dropped where it is 0 or 1.
 pub fn take_info_export(token: &Token, state: &mut State) -> Result<(), StepFault>
-    ensures { GivesState result state.new (checked (arity_mark token.now) (info_export_moved state.old.goals state.old.values state.old.tables token.now)) }
+    ensures { GivesState result state.new
+        (checked (arity_mark token.now)
+        (info_export_moved state.old.goals state.old.values state.old.tables token.now)) }
 {
     match token {
         Token::Integer(Sign::Absent, digits) => match arity(digits.as_slice()) {

@@ -1,10 +1,10 @@
 ghost use Rattle.std.specs.Prelude.{◌≡◌, true, false, MatchResult, IfOk};
-ghost use Rattle.hy_core.specs.Marks.{plain, word as word_mark};
-ghost use Rattle.core_parse.specs.Machine.{is_word, checked, aliased_by, alias_moved, clause_rest_moved, behind_note, note_rest, goal_moved};
-ghost use Rattle.core_parse.specs.Answers.{GivesState};
+ghost use Rattle.hy_core.specs.Marks.{plain, symbol as symbol_mark};
+ghost use Rattle.core_parse.specs.code.Pushdown.{is_symbol, checked, aliased_by, alias_moved, clause_rest_moved, behind_note, note_rest, goal_moved};
+ghost use Rattle.core_parse.specs.code.Verdicts.{GivesState};
 ghost use Rattle.core_parse.specs.declared.answer.StepFault.TheVariants.{Refused};
 ghost use Rattle.hy_core.specs.declared.refusal.RefusalKind.TheVariants.{Unexpected};
-ghost use Rattle.hy_core.specs.declared.token.Word.TheVariants as words;
+ghost use Rattle.hy_core.specs.declared.token.Symbol.TheVariants as symbols;
 ghost use Rattle.core_parse.specs.declared.state.Goal.TheVariants as g;
 
 use crate::answer::{StepFault, UNEXPECTED};
@@ -12,24 +12,25 @@ use crate::level::deeper;
 use crate::pattern::push_clause_rest;
 use crate::pop::{has_pattern, pop_pattern};
 use crate::state::{Closer, Form, Goal, Part, State, Value};
-use hy_core::{Pattern, Token, Word};
+use hy_core::{Pattern, Symbol, Token};
 use sqlite_items::Items;
 use std::alloc::Global;
 
-pub fn has_word(token: &Token, word: Word) -> bool
-    ensures { result ≡ is_word word token.now }
+pub fn has_symbol(token: &Token, symbol: Symbol) -> bool
+    ensures { result ≡ is_symbol symbol token.now }
 {
     match token {
-        Token::Word(found) => *found == word,
+        Token::Symbol(found) => *found == symbol,
         _ => false,
     }
 }
 
 /// Takes a keyword or a mark.
-pub fn want(token: &Token, word: Word) -> Result<(), StepFault>
-    ensures { MatchResult result (λ _. is_word word token.now ≡ true) (λ e. (e ≡ Refused Unexpected) × (is_word word token.now ≡ false)) }
+pub fn want(token: &Token, symbol: Symbol) -> Result<(), StepFault>
+    ensures { MatchResult result (λ _. is_symbol symbol token.now ≡ true)
+        (λ e. (e ≡ Refused Unexpected) × (is_symbol symbol token.now ≡ false)) }
 {
-    if has_word(token, word) {
+    if has_symbol(token, symbol) {
         Ok(())
     } else {
         Err(UNEXPECTED)
@@ -38,16 +39,20 @@ pub fn want(token: &Token, word: Word) -> Result<(), StepFault>
 
 /// The slash of a function's name, behind its atom.
 pub fn take_name(token: &Token, state: &mut State) -> Result<(), StepFault>
-    ensures { GivesState result state.new (checked (plain token.now) (goal_moved g.NameOrAtom state.old.goals state.old.values state.old.tables token.now)) }
+    ensures { GivesState result state.new
+        (checked (plain token.now) (goal_moved g.NameOrAtom state.old.goals state.old.values
+        state.old.tables token.now)) }
 {
-    want(token, Word::Slash)?;
+    want(token, Symbol::Slash)?;
     state.goals.push(Goal::Arity)?;
     Ok(())
 }
 
-/// The rest of an alias is to be read, behind a pattern that has to be a variable.
+// The rest of an alias is to be read, behind a pattern that has to be a variable.
 fn alias_of(level: u32, pattern: Pattern, state: &mut State) -> Result<(), StepFault>
-    ensures { GivesState result state.new (checked (word_mark words.Equals) (aliased_by level state.old.goals pattern state.old.values state.old.tables)) }
+    ensures { GivesState result state.new
+        (checked (symbol_mark symbols.Equals)
+        (aliased_by level state.old.goals pattern state.old.values state.old.tables)) }
 {
     match pattern {
         Pattern::Var(var) => {
@@ -65,9 +70,11 @@ fn alias_of(level: u32, pattern: Pattern, state: &mut State) -> Result<(), StepF
 
 /// The `=` of an alias, behind its variable.
 pub fn take_alias(level: u32, token: &Token, state: &mut State) -> Result<(), StepFault>
-    ensures { GivesState result state.new (checked (plain token.now) (alias_moved level state.old.goals state.old.values state.old.tables token.now)) }
+    ensures { GivesState result state.new
+        (checked (plain token.now) (alias_moved level state.old.goals state.old.values
+        state.old.tables token.now)) }
 {
-    want(token, Word::Equals)?;
+    want(token, Symbol::Equals)?;
     let pattern = pop_pattern(&mut state.values)?;
     alias_of(level, pattern, state)
 }
@@ -79,9 +86,11 @@ pub fn take_clause_rest(
     token: &Token,
     state: &mut State,
 ) -> Result<(), StepFault>
-    ensures { GivesState result state.new (checked (plain token.now) (clause_rest_moved level state.old.goals state.old.values state.old.tables token.now)) }
+    ensures { GivesState result state.new
+        (checked (plain token.now) (clause_rest_moved level state.old.goals state.old.values
+        state.old.tables token.now)) }
 {
-    want(token, Word::When)?;
+    want(token, Symbol::When)?;
     let pattern = pop_pattern(&mut state.values)?;
     let mut patterns = Items::new(alloc);
     patterns.push(pattern)?;
@@ -90,24 +99,33 @@ pub fn take_clause_rest(
     Ok(())
 }
 
-/// The constants of an annotation are to be read, behind its bar.
+// The constants of an annotation are to be read, behind its bar.
 fn push_note_rest(level: u32, state: &mut State) -> Result<(), StepFault>
-    ensures { GivesState result state.new (checked (word_mark words.NoteBar) (Rattle.std.specs.Prelude.Some (record { goals = note_rest level state.old.goals; values = state.old.values; tables = state.old.tables }))) }
+    ensures { GivesState result state.new
+        (checked (symbol_mark symbols.NoteBar)
+        (Rattle.std.specs.Prelude.Some
+        (record {
+          goals = note_rest level state.old.goals;
+          values = state.old.values;
+          tables = state.old.tables;
+        }))) }
 {
     let inner = deeper(level)?;
     state.goals.push_all(&[
-        Goal::Word(Word::OpenList),
+        Goal::Symbol(Symbol::OpenList),
         Goal::Parts(Part::Constant, inner, Closer::List),
-        Goal::Word(Word::Close),
+        Goal::Symbol(Symbol::Close),
     ])?;
     Ok(())
 }
 
 /// The bar of an annotation.
 pub fn take_note(level: u32, token: &Token, state: &mut State) -> Result<(), StepFault>
-    ensures { GivesState result state.new (checked (plain token.now) (goal_moved (g.Note level) state.old.goals state.old.values state.old.tables token.now)) }
+    ensures { GivesState result state.new
+        (checked (plain token.now) (goal_moved (g.Note level) state.old.goals state.old.values
+        state.old.tables token.now)) }
 {
-    want(token, Word::NoteBar)?;
+    want(token, Symbol::NoteBar)?;
     push_note_rest(level, state)
 }
 
@@ -118,9 +136,11 @@ pub fn take_clause_note(
     token: &Token,
     state: &mut State,
 ) -> Result<(), StepFault>
-    ensures { GivesState result state.new (checked (plain token.now) (goal_moved (g.ClauseNote level inner) state.old.goals state.old.values state.old.tables token.now)) }
+    ensures { GivesState result state.new
+        (checked (plain token.now) (goal_moved (g.ClauseNote level inner) state.old.goals
+        state.old.values state.old.tables token.now)) }
 {
-    want(token, Word::NoteBar)?;
+    want(token, Symbol::NoteBar)?;
     if has_pattern(&mut state.values)? {
         state
             .goals

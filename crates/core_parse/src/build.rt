@@ -1,6 +1,6 @@
 ghost use Rattle.std.specs.Prelude.{◌≡◌};
-ghost use Rattle.core_parse.specs.Trees.{built, joined_on};
-ghost use Rattle.core_parse.specs.Steps.{GivesWhere};
+ghost use Rattle.core_parse.specs.code.Trees.{built, joined_on};
+ghost use Rattle.core_parse.specs.code.Steps.{GivesWhere};
 
 use crate::answer::{StepFault, UNEXPECTED};
 use crate::clause_forms::{

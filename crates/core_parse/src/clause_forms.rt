@@ -1,6 +1,6 @@
 ghost use Rattle.std.specs.Prelude.{◌≡◌};
-ghost use Rattle.core_parse.specs.Trees.{one_variable_built, clause_built, function_built, pattern_tuple_built, alias_built, function_added, functions_kept, defined, definition_built};
-ghost use Rattle.core_parse.specs.Steps.{GivesWhere};
+ghost use Rattle.core_parse.specs.code.Trees.{one_variable_built, clause_built, function_built, pattern_tuple_built, alias_built, function_added, functions_kept, defined, definition_built};
+ghost use Rattle.core_parse.specs.code.Steps.{GivesWhere};
 
 use crate::answer::StepFault;
 use crate::pop::{
@@ -64,7 +64,7 @@ pub fn build_function(values: &mut Stack<Value>) -> Result<(), StepFault>
     add_function(name, params, body, values)
 }
 
-/// Leaves the functions that are on top.
+// Leaves the functions that are on top.
 fn keep_functions(values: &mut Stack<Value>) -> Result<(), StepFault>
     ensures { GivesWhere result values.new (functions_kept values.old) }
 {
@@ -73,7 +73,8 @@ fn keep_functions(values: &mut Stack<Value>) -> Result<(), StepFault>
     Ok(())
 }
 
-/// Puts a definition of this name behind those before it, or goes back to the tables before a dropped one.
+// Puts a definition of this name behind those before it, or goes back to the tables before a
+// dropped one.
 fn define(
     head: Head,
     params: Items<u32>,
@@ -81,7 +82,8 @@ fn define(
     values: &mut Stack<Value>,
     tables: &mut Tables,
 ) -> Result<(), StepFault>
-    ensures { GivesWhere result (values.new, tables.new) (defined head params body values.old tables.old) }
+    ensures { GivesWhere result (values.new, tables.new)
+        (defined head params body values.old tables.old) }
 {
     match head {
         Head::Name(name) => add_function(name, params, body, values),

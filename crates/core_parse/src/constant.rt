@@ -1,21 +1,23 @@
 ghost use Rattle.std.specs.Prelude.{◌≡◌};
 ghost use Rattle.hy_core.specs.Marks.{constant};
-ghost use Rattle.core_parse.specs.Machine.{checked, constant_begun, constant_opened, value_begun, value_mark};
-ghost use Rattle.core_parse.specs.Answers.{GivesState};
-ghost use Rattle.hy_core.specs.declared.token.Token.TheVariants.{Word as WordToken};
+ghost use Rattle.core_parse.specs.code.Pushdown.{checked, constant_begun, constant_opened, value_begun, value_mark};
+ghost use Rattle.core_parse.specs.code.Verdicts.{GivesState};
+ghost use Rattle.hy_core.specs.declared.token.Token.TheVariants.{Symbol as SymbolToken};
 
 use crate::answer::StepFault;
 use crate::level::inside;
 use crate::state::{Closer, Goal, Part, State};
-use hy_core::{RefusalKind, Token, Word};
+use hy_core::{RefusalKind, Symbol, Token};
 
 /// The first token of a constant of this level, of which nothing is kept.
 pub fn begin_constant(level: u32, token: &Token, state: &mut State) -> Result<(), StepFault>
-    ensures { GivesState result state.new (checked (constant level token.now) (constant_begun level state.old.goals state.old.values state.old.tables token.now)) }
+    ensures { GivesState result state.new
+        (checked (constant level token.now)
+        (constant_begun level state.old.goals state.old.values state.old.tables token.now)) }
 {
     match token {
         Token::Variable(_) => Err(StepFault::Refused(RefusalKind::Unexpected)),
-        Token::Word(word) => open_constant(level, *word, state),
+        Token::Symbol(symbol) => open_constant(level, *symbol, state),
         _ => {
             inside(level)?;
             Ok(())
@@ -23,16 +25,18 @@ pub fn begin_constant(level: u32, token: &Token, state: &mut State) -> Result<()
     }
 }
 
-/// The mark that begins a constant of this level.
-fn open_constant(level: u32, word: Word, state: &mut State) -> Result<(), StepFault>
-    ensures { GivesState result state.new (checked (constant level (WordToken word)) (constant_opened level state.old.goals state.old.values state.old.tables word)) }
+// The mark that begins a constant of this level.
+fn open_constant(level: u32, symbol: Symbol, state: &mut State) -> Result<(), StepFault>
+    ensures { GivesState result state.new
+        (checked (constant level (SymbolToken symbol))
+        (constant_opened level state.old.goals state.old.values state.old.tables symbol)) }
 {
-    match word {
-        Word::OpenList => {
+    match symbol {
+        Symbol::OpenList => {
             inside(level)?;
             state.goals.push(Goal::Heads(Part::Constant, level))?;
         }
-        Word::OpenTuple => {
+        Symbol::OpenTuple => {
             let inner = inside(level)?;
             state
                 .goals
@@ -45,10 +49,12 @@ fn open_constant(level: u32, word: Word, state: &mut State) -> Result<(), StepFa
 
 /// The first token of an attribute's value.
 pub fn begin_value(level: u32, token: &Token, state: &mut State) -> Result<(), StepFault>
-    ensures { GivesState result state.new (checked (value_mark level token.now) (value_begun level state.old.goals state.old.values state.old.tables token.now)) }
+    ensures { GivesState result state.new
+        (checked (value_mark level token.now)
+        (value_begun level state.old.goals state.old.values state.old.tables token.now)) }
 {
     match token {
-        Token::Word(Word::Open) => {
+        Token::Symbol(Symbol::Open) => {
             let inner = inside(level)?;
             state
                 .goals

@@ -1,20 +1,20 @@
 ghost use Rattle.std.specs.Prelude.{◌≡◌, IfOk};
 ghost use Rattle.hy_core.specs.Marks.{at};
 ghost use Rattle.hy_core.specs.Expressions.{string_expr};
-ghost use Rattle.core_parse.specs.Machine.{checked, expr_begun, expr_opened};
-ghost use Rattle.core_parse.specs.Answers.{GivesState};
-ghost use Rattle.hy_core.specs.declared.token.Token.TheVariants.{Word as WordToken};
+ghost use Rattle.core_parse.specs.code.Pushdown.{checked, expr_begun, expr_opened};
+ghost use Rattle.core_parse.specs.code.Verdicts.{GivesState};
+ghost use Rattle.hy_core.specs.declared.token.Token.TheVariants.{Symbol as SymbolToken};
 
 use crate::answer::StepFault;
 use crate::interning::number_of;
 use crate::level::inside;
 use crate::number::integer;
 use crate::state::{Closer, Form, Goal, Part, State, Value};
-use hy_core::{Expr, RefusalKind, Text, Token, Word};
+use hy_core::{Expr, RefusalKind, Symbol, Text, Token};
 use sqlite_items::Items;
 use std::alloc::{AllocError, Global};
 
-/// A string, which is nil where it is empty.
+// A string, which is nil where it is empty.
 fn string(alloc: Global, bytes: &[u8]) -> Result<Expr, AllocError>
     ensures { IfOk result (λ x. x ≡ string_expr bytes.now) }
 {
@@ -31,7 +31,9 @@ pub fn begin_expr(
     token: &Token,
     state: &mut State,
 ) -> Result<(), StepFault>
-    ensures { GivesState result state.new (checked (at level token.now) (expr_begun level state.old.goals state.old.values state.old.tables token.now)) }
+    ensures { GivesState result state.new
+        (checked (at level token.now) (expr_begun level state.old.goals state.old.values
+        state.old.tables token.now)) }
 {
     match token {
         Token::Integer(sign, digits) => {
@@ -62,47 +64,49 @@ pub fn begin_expr(
             let var = number_of(&mut state.tables.variables, name.as_slice())?;
             state.values.push(Value::Expr(Expr::Var(var)))?;
         }
-        Token::Word(word) => open_expr(alloc, level, *word, state)?,
+        Token::Symbol(symbol) => open_expr(alloc, level, *symbol, state)?,
     }
     Ok(())
 }
 
-/// The keyword or mark that begins an expression of this level.
-fn open_expr(alloc: Global, level: u32, word: Word, state: &mut State) -> Result<(), StepFault>
-    ensures { GivesState result state.new (checked (at level (WordToken word)) (expr_opened level state.old.goals state.old.values state.old.tables word)) }
+// The keyword or mark that begins an expression of this level.
+fn open_expr(alloc: Global, level: u32, symbol: Symbol, state: &mut State) -> Result<(), StepFault>
+    ensures { GivesState result state.new
+        (checked (at level (SymbolToken symbol))
+        (expr_opened level state.old.goals state.old.values state.old.tables symbol)) }
 {
-    match word {
-        Word::OpenList => {
+    match symbol {
+        Symbol::OpenList => {
             inside(level)?;
             state.values.push(Value::Exprs(Items::new(alloc)))?;
             state.goals.push(Goal::Heads(Part::Expr, level))?;
         }
-        Word::OpenTuple => {
+        Symbol::OpenTuple => {
             let inner = inside(level)?;
             state.goals.push_all(&[
                 Goal::Parts(Part::Expr, inner, Closer::Tuple),
                 Goal::Build(Form::Tuple),
             ])?;
         }
-        Word::Let => {
+        Symbol::Let => {
             let inner = inside(level)?;
             state.goals.push_all(&[
                 Goal::Bindings(inner),
-                Goal::Word(Word::Equals),
+                Goal::Symbol(Symbol::Equals),
                 Goal::Part(Part::Expr, inner),
-                Goal::Word(Word::In),
+                Goal::Symbol(Symbol::In),
                 Goal::Part(Part::Expr, inner),
                 Goal::Build(Form::Let),
             ])?;
         }
-        Word::Less => {
+        Symbol::Less => {
             let inner = inside(level)?;
             state.goals.push_all(&[
                 Goal::Parts(Part::Expr, inner, Closer::Values),
                 Goal::Build(Form::Values),
             ])?;
         }
-        Word::Do => {
+        Symbol::Do => {
             let inner = inside(level)?;
             state.goals.push_all(&[
                 Goal::Part(Part::Expr, inner),
@@ -110,18 +114,18 @@ fn open_expr(alloc: Global, level: u32, word: Word, state: &mut State) -> Result
                 Goal::Build(Form::Do),
             ])?;
         }
-        Word::Case => {
+        Symbol::Case => {
             let inner = inside(level)?;
             state.goals.push_all(&[
                 Goal::Part(Part::Expr, inner),
-                Goal::Word(Word::Of),
+                Goal::Symbol(Symbol::Of),
                 Goal::Build(Form::NoClauses),
                 Goal::Clause(inner, false),
                 Goal::Clauses(inner, Closer::Case),
                 Goal::Build(Form::Case),
             ])?;
         }
-        Word::Letrec => {
+        Symbol::Letrec => {
             let inner = inside(level)?;
             state.values.push(Value::Functions(Items::new(alloc)))?;
             state.goals.push_all(&[
@@ -130,78 +134,78 @@ fn open_expr(alloc: Global, level: u32, word: Word, state: &mut State) -> Result
                 Goal::Build(Form::Letrec),
             ])?;
         }
-        Word::Apply => {
+        Symbol::Apply => {
             let inner = inside(level)?;
             state.goals.push_all(&[
                 Goal::Part(Part::Expr, inner),
-                Goal::Word(Word::Open),
+                Goal::Symbol(Symbol::Open),
                 Goal::Parts(Part::Expr, inner, Closer::Arguments),
                 Goal::Build(Form::Apply),
             ])?;
         }
-        Word::Call => {
+        Symbol::Call => {
             let inner = inside(level)?;
             state.goals.push_all(&[
                 Goal::Part(Part::Expr, inner),
-                Goal::Word(Word::Colon),
+                Goal::Symbol(Symbol::Colon),
                 Goal::Part(Part::Expr, inner),
-                Goal::Word(Word::Open),
+                Goal::Symbol(Symbol::Open),
                 Goal::Parts(Part::Expr, inner, Closer::Arguments),
                 Goal::Build(Form::Call),
             ])?;
         }
-        Word::Primop => {
+        Symbol::Primop => {
             let inner = inside(level)?;
             state.goals.push_all(&[
                 Goal::Primop(inner),
-                Goal::Word(Word::Open),
+                Goal::Symbol(Symbol::Open),
                 Goal::Parts(Part::Expr, inner, Closer::Arguments),
                 Goal::Build(Form::Primop),
             ])?;
         }
-        Word::Receive => {
+        Symbol::Receive => {
             let inner = inside(level)?;
             state.values.push(Value::Clauses(Items::new(alloc)))?;
             state.goals.push_all(&[
                 Goal::Clauses(inner, Closer::Receive),
                 Goal::Part(Part::Expr, inner),
-                Goal::Word(Word::Arrow),
+                Goal::Symbol(Symbol::Arrow),
                 Goal::Part(Part::Expr, inner),
                 Goal::Build(Form::Receive),
             ])?;
         }
-        Word::Try => {
+        Symbol::Try => {
             let inner = inside(level)?;
             state.goals.push_all(&[
                 Goal::Part(Part::Expr, inner),
-                Goal::Word(Word::Of),
+                Goal::Symbol(Symbol::Of),
                 Goal::Bindings(inner),
-                Goal::Word(Word::Arrow),
+                Goal::Symbol(Symbol::Arrow),
                 Goal::Part(Part::Expr, inner),
-                Goal::Word(Word::Catch),
+                Goal::Symbol(Symbol::Catch),
                 Goal::Bindings(inner),
-                Goal::Word(Word::Arrow),
+                Goal::Symbol(Symbol::Arrow),
                 Goal::Part(Part::Expr, inner),
                 Goal::Build(Form::Try),
             ])?;
         }
-        Word::Catch => {
+        Symbol::Catch => {
             let inner = inside(level)?;
             state
                 .goals
                 .push_all(&[Goal::Part(Part::Expr, inner), Goal::Build(Form::Catch)])?;
         }
-        Word::Fun => {
+        Symbol::Fun => {
             let inner = inside(level)?;
             state.goals.push_all(&[
-                Goal::Word(Word::Open),
+                Goal::Symbol(Symbol::Open),
                 Goal::Parts(Part::Variable, inner, Closer::Arguments),
-                Goal::Word(Word::Arrow),
+                Goal::Symbol(Symbol::Arrow),
                 Goal::Part(Part::Expr, inner),
                 Goal::Build(Form::Fun),
             ])?;
         }
-        Word::Open => {
+        Symbol::Open => {
             let inner = inside(level)?;
             state
                 .goals

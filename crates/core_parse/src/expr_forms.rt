@@ -1,6 +1,6 @@
 ghost use Rattle.std.specs.Prelude.{◌≡◌};
-ghost use Rattle.core_parse.specs.Trees.{tuple_built, values_built, let_built, do_built, case_built, letrec_built, apply_built, call_built, primop_built, receive_built, try_built_of, try_built, catch_built, fun_built};
-ghost use Rattle.core_parse.specs.Steps.{GivesWhere};
+ghost use Rattle.core_parse.specs.code.Trees.{tuple_built, values_built, let_built, do_built, case_built, letrec_built, apply_built, call_built, primop_built, receive_built, try_built_of, try_built, catch_built, fun_built};
+ghost use Rattle.core_parse.specs.code.Steps.{GivesWhere};
 
 use crate::answer::StepFault;
 use crate::pop::{pop_atom, pop_clauses, pop_expr, pop_exprs, pop_functions, pop_variables};

@@ -1,7 +1,7 @@
 ghost use Rattle.std.specs.Prelude.{◌≡◌, [], IfOk};
-ghost use Rattle.core_parse.specs.Trees.{behind_heads, behind_head_patterns};
-ghost use Rattle.core_parse.specs.Trees.{exprs_joined, patterns_joined};
-ghost use Rattle.core_parse.specs.Steps.{GivesWhere};
+ghost use Rattle.core_parse.specs.code.Trees.{behind_heads, behind_head_patterns};
+ghost use Rattle.core_parse.specs.code.Trees.{exprs_joined, patterns_joined};
+ghost use Rattle.core_parse.specs.code.Steps.{GivesWhere};
 ghost use Rattle.hy_core.specs.Expressions.{joined};
 ghost use Rattle.hy_core.specs.Patterns.{joined_pattern};
 

@@ -20,8 +20,6 @@ mod parts;
 mod pattern;
 mod pop;
 mod read;
-#[cfg(test)]
-mod read_tests;
 mod run;
 mod settle;
 mod several;

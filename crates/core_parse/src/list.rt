@@ -1,13 +1,13 @@
 ghost use Rattle.std.specs.Prelude.{◌≡◌, nat_lt, true, false, MatchResult};
 ghost use Rattle.hy_core.specs.Marks.{plain};
-ghost use Rattle.core_parse.specs.Machine.{closing, open_list, checked, mark, part_mark, part_begun, goal_moved};
-ghost use Rattle.core_parse.specs.Answers.{GivesState};
+ghost use Rattle.core_parse.specs.code.Pushdown.{closing, open_list, checked, mark, part_mark, part_begun, goal_moved};
+ghost use Rattle.core_parse.specs.code.Verdicts.{GivesState};
 ghost use Rattle.core_parse.specs.declared.answer.StepFault.TheVariants.{Refused};
 ghost use Rattle.hy_core.specs.declared.refusal.RefusalKind.TheVariants.{TooDeep as DeepKind};
 ghost use Rattle.core_parse.specs.declared.state.Goal.TheVariants as g;
 
 use crate::answer::{StepFault, UNEXPECTED};
-use crate::behind::has_word;
+use crate::behind::has_symbol;
 use crate::constant::begin_constant;
 use crate::expr::begin_expr;
 use crate::level::{deeper, inside};
@@ -15,21 +15,21 @@ use crate::named::{begin_attribute, begin_export, begin_variable};
 use crate::parts::{add_part, close_list, open_parts};
 use crate::pattern::begin_pattern;
 use crate::state::{Closer, Form, Goal, Part, State};
-use hy_core::{Token, Word};
+use hy_core::{Symbol, Token};
 use std::alloc::Global;
 
 impl Closer {
     /// The keyword or mark that closes.
-    pub fn word(self) -> Word
+    pub fn symbol(self) -> Symbol
         ensures { result ≡ closing self }
     {
         match self {
-            Closer::Tuple => Word::CloseTuple,
-            Closer::List => Word::CloseList,
-            Closer::Arguments => Word::Close,
-            Closer::Values => Word::Greater,
-            Closer::Case => Word::End,
-            Closer::Receive => Word::After,
+            Closer::Tuple => Symbol::CloseTuple,
+            Closer::List => Symbol::CloseList,
+            Closer::Arguments => Symbol::Close,
+            Closer::Values => Symbol::Greater,
+            Closer::Case => Symbol::End,
+            Closer::Receive => Symbol::After,
         }
     }
 }
@@ -42,7 +42,9 @@ pub fn take_part(
     token: &Token,
     state: &mut State,
 ) -> Result<(), StepFault>
-    ensures { GivesState result state.new (checked (part_mark part level token.now) (part_begun part level state.old.goals state.old.values state.old.tables token.now)) }
+    ensures { GivesState result state.new
+        (checked (part_mark part level token.now)
+        (part_begun part level state.old.goals state.old.values state.old.tables token.now)) }
 {
     match part {
         Part::Expr => begin_expr(alloc, level, token, state),
@@ -63,10 +65,13 @@ pub fn take_parts(
     token: &Token,
     state: &mut State,
 ) -> Result<(), StepFault>
-    ensures { GivesState result state.new (checked (mark (g.Parts part level closer) token.now) (goal_moved (g.Parts part level closer) state.old.goals state.old.values state.old.tables token.now)) }
+    ensures { GivesState result state.new
+        (checked (mark (g.Parts part level closer) token.now)
+        (goal_moved (g.Parts part level closer) state.old.goals state.old.values
+        state.old.tables token.now)) }
 {
     open_parts(alloc, part, &mut state.values)?;
-    if has_word(token, closer.word()) {
+    if has_symbol(token, closer.symbol()) {
         return Ok(());
     }
     state.goals.push(Goal::MoreParts(part, level, closer))?;
@@ -81,12 +86,14 @@ pub fn take_more_parts(
     token: &Token,
     state: &mut State,
 ) -> Result<(), StepFault>
-    ensures { GivesState result state.new (checked (plain token.now) (goal_moved (g.MoreParts part level closer) state.old.goals state.old.values state.old.tables token.now)) }
+    ensures { GivesState result state.new
+        (checked (plain token.now) (goal_moved (g.MoreParts part level closer) state.old.goals
+        state.old.values state.old.tables token.now)) }
 {
-    if has_word(token, closer.word()) {
+    if has_symbol(token, closer.symbol()) {
         return add_part(part, &mut state.values);
     }
-    if has_word(token, Word::Comma) {
+    if has_symbol(token, Symbol::Comma) {
         add_part(part, &mut state.values)?;
         state.goals.push_all(&[
             Goal::Part(part, level),
@@ -105,9 +112,12 @@ pub fn take_heads(
     token: &Token,
     state: &mut State,
 ) -> Result<(), StepFault>
-    ensures { GivesState result state.new (checked (mark (g.Heads part level) token.now) (goal_moved (g.Heads part level) state.old.goals state.old.values state.old.tables token.now)) }
+    ensures { GivesState result state.new
+        (checked (mark (g.Heads part level) token.now)
+        (goal_moved (g.Heads part level) state.old.goals state.old.values
+        state.old.tables token.now)) }
 {
-    if has_word(token, Word::CloseList) {
+    if has_symbol(token, Symbol::CloseList) {
         return close_list(alloc, part, &mut state.values);
     }
     let inner = deeper(level)?;
@@ -123,13 +133,15 @@ pub fn take_more_heads(
     token: &Token,
     state: &mut State,
 ) -> Result<(), StepFault>
-    ensures { GivesState result state.new (checked (plain token.now) (goal_moved (g.MoreHeads part level) state.old.goals state.old.values state.old.tables token.now)) }
+    ensures { GivesState result state.new
+        (checked (plain token.now) (goal_moved (g.MoreHeads part level) state.old.goals
+        state.old.values state.old.tables token.now)) }
 {
-    if has_word(token, Word::CloseList) {
+    if has_symbol(token, Symbol::CloseList) {
         add_part(part, &mut state.values)?;
         return close_list(alloc, part, &mut state.values);
     }
-    if has_word(token, Word::Comma) {
+    if has_symbol(token, Symbol::Comma) {
         add_part(part, &mut state.values)?;
         let inner = deeper(level)?;
         state
@@ -137,7 +149,7 @@ pub fn take_more_heads(
             .push_all(&[Goal::Part(part, inner), Goal::MoreHeads(part, level)])?;
         return Ok(());
     }
-    if has_word(token, Word::Bar) {
+    if has_symbol(token, Symbol::Bar) {
         add_part(part, &mut state.values)?;
         state.goals.push(Goal::Tail(part, level))?;
         return Ok(());
@@ -145,9 +157,11 @@ pub fn take_more_heads(
     Err(UNEXPECTED)
 }
 
-/// Looks at the level of a bracket in the place of a tail.
+// Looks at the level of a bracket in the place of a tail.
 fn look_at_bracket(part: Part, level: u32) -> Result<(), StepFault>
-    ensures { MatchResult result (λ _. nat_lt 400 (part_mark part level open_list).level ≡ false) (λ e. (nat_lt 400 (part_mark part level open_list).level ≡ true) × (e ≡ Refused DeepKind)) }
+    ensures { MatchResult result (λ _. nat_lt 400 (part_mark part level open_list).level ≡ false)
+        (λ e. (nat_lt 400 (part_mark part level open_list).level ≡ true)
+        × (e ≡ Refused DeepKind)) }
 {
     match part {
         Part::Expr | Part::Pattern | Part::Constant => {
@@ -158,8 +172,8 @@ fn look_at_bracket(part: Part, level: u32) -> Result<(), StepFault>
     }
 }
 
-/// The first token of the tail of a list notation. Where that is a list notation too, its heads go behind
-/// those that were read.
+/// The first token of the tail of a list notation. Where that is a list notation too, its heads go
+/// behind those that were read.
 pub fn take_tail(
     alloc: Global,
     part: Part,
@@ -167,16 +181,20 @@ pub fn take_tail(
     token: &Token,
     state: &mut State,
 ) -> Result<(), StepFault>
-    ensures { GivesState result state.new (checked (mark (g.Tail part level) token.now) (goal_moved (g.Tail part level) state.old.goals state.old.values state.old.tables token.now)) }
+    ensures { GivesState result state.new
+        (checked (mark (g.Tail part level) token.now)
+        (goal_moved (g.Tail part level) state.old.goals state.old.values
+        state.old.tables token.now)) }
 {
-    if has_word(token, Word::OpenList) {
+    if has_symbol(token, Symbol::OpenList) {
         look_at_bracket(part, level)?;
-        state
-            .goals
-            .push_all(&[Goal::Heads(part, level), Goal::Word(Word::CloseList)])?;
+        state.goals.push_all(&[Goal::Heads(part, level), Goal::Symbol(Symbol::CloseList)])?;
         return Ok(());
     }
     let inner = deeper(level)?;
-    state.goals.push_all(&[Goal::Word(Word::CloseList), Goal::Build(Form::Join(part))])?;
+    state.goals.push_all(&[
+        Goal::Symbol(Symbol::CloseList),
+        Goal::Build(Form::Join(part)),
+    ])?;
     take_part(alloc, part, inner, token, state)
 }

@@ -1,14 +1,14 @@
 ghost use Rattle.std.specs.Prelude.{◌≡◌};
-ghost use Rattle.core_parse.specs.Machine.{checked, is_info, variable_begun, key_begun, attribute_begun, primop_begun, function_begun, definition_begun, export_begun, annotation_mark};
-ghost use Rattle.core_parse.specs.Answers.{GivesState};
+ghost use Rattle.core_parse.specs.code.Pushdown.{checked, is_info, variable_begun, key_begun, attribute_begun, primop_begun, function_begun, definition_begun, export_begun, annotation_mark};
+ghost use Rattle.core_parse.specs.code.Verdicts.{GivesState};
 
 use crate::answer::StepFault;
 use crate::interning::number_of;
 use crate::level::inside;
 use crate::state::{Goal, Part, State, Value};
-use hy_core::{RefusalKind, Token, Word};
+use hy_core::{RefusalKind, Symbol, Token};
 
-/// Whether a name is `'module_info'`, which may have to be dropped.
+// Whether a name is `'module_info'`, which may have to be dropped.
 fn names_info(text: &[u8]) -> bool
     ensures { result ≡ is_info text.now }
 {
@@ -17,7 +17,9 @@ fn names_info(text: &[u8]) -> bool
 
 /// The first token of a variable that is bound, where an annotation round it has this level.
 pub fn begin_variable(level: u32, token: &Token, state: &mut State) -> Result<(), StepFault>
-    ensures { GivesState result state.new (checked (annotation_mark level token.now) (variable_begun level state.old.goals state.old.values state.old.tables token.now)) }
+    ensures { GivesState result state.new
+        (checked (annotation_mark level token.now)
+        (variable_begun level state.old.goals state.old.values state.old.tables token.now)) }
 {
     match token {
         Token::Variable(name) => {
@@ -25,7 +27,7 @@ pub fn begin_variable(level: u32, token: &Token, state: &mut State) -> Result<()
             state.values.push(Value::Variable(var))?;
             Ok(())
         }
-        Token::Word(Word::Open) => {
+        Token::Symbol(Symbol::Open) => {
             let inner = inside(level)?;
             state
                 .goals
@@ -38,11 +40,13 @@ pub fn begin_variable(level: u32, token: &Token, state: &mut State) -> Result<()
 
 /// The first token of the key of an attribute.
 pub fn begin_key(level: u32, token: &Token, state: &mut State) -> Result<(), StepFault>
-    ensures { GivesState result state.new (checked (annotation_mark level token.now) (key_begun level state.old.goals state.old.values state.old.tables token.now)) }
+    ensures { GivesState result state.new
+        (checked (annotation_mark level token.now)
+        (key_begun level state.old.goals state.old.values state.old.tables token.now)) }
 {
     match token {
         Token::Atom(_) => Ok(()),
-        Token::Word(Word::Open) => {
+        Token::Symbol(Symbol::Open) => {
             let inner = inside(level)?;
             state
                 .goals
@@ -55,17 +59,19 @@ pub fn begin_key(level: u32, token: &Token, state: &mut State) -> Result<(), Ste
 
 /// The first token of an attribute.
 pub fn begin_attribute(level: u32, token: &Token, state: &mut State) -> Result<(), StepFault>
-    ensures { GivesState result state.new (checked (annotation_mark level token.now) (attribute_begun level state.old.goals state.old.values state.old.tables token.now)) }
+    ensures { GivesState result state.new
+        (checked (annotation_mark level token.now)
+        (attribute_begun level state.old.goals state.old.values state.old.tables token.now)) }
 {
-    state
-        .goals
-        .push_all(&[Goal::Word(Word::Equals), Goal::AttributeValue(level)])?;
+    state.goals.push_all(&[Goal::Symbol(Symbol::Equals), Goal::AttributeValue(level)])?;
     begin_key(level, token, state)
 }
 
 /// The first token of the name of a primitive operation.
 pub fn begin_primop(level: u32, token: &Token, state: &mut State) -> Result<(), StepFault>
-    ensures { GivesState result state.new (checked (annotation_mark level token.now) (primop_begun level state.old.goals state.old.values state.old.tables token.now)) }
+    ensures { GivesState result state.new
+        (checked (annotation_mark level token.now)
+        (primop_begun level state.old.goals state.old.values state.old.tables token.now)) }
 {
     match token {
         Token::Atom(text) => {
@@ -73,7 +79,7 @@ pub fn begin_primop(level: u32, token: &Token, state: &mut State) -> Result<(), 
             state.values.push(Value::Atom(atom))?;
             Ok(())
         }
-        Token::Word(Word::Open) => {
+        Token::Symbol(Symbol::Open) => {
             let inner = inside(level)?;
             state
                 .goals
@@ -86,7 +92,9 @@ pub fn begin_primop(level: u32, token: &Token, state: &mut State) -> Result<(), 
 
 /// The first token of the name of a `letrec` function.
 pub fn begin_function_name(level: u32, token: &Token, state: &mut State) -> Result<(), StepFault>
-    ensures { GivesState result state.new (checked (annotation_mark level token.now) (function_begun level state.old.goals state.old.values state.old.tables token.now)) }
+    ensures { GivesState result state.new
+        (checked (annotation_mark level token.now)
+        (function_begun level state.old.goals state.old.values state.old.tables token.now)) }
 {
     match token {
         Token::Atom(text) => {
@@ -94,10 +102,10 @@ pub fn begin_function_name(level: u32, token: &Token, state: &mut State) -> Resu
             state.values.push(Value::Atom(atom))?;
             state
                 .goals
-                .push_all(&[Goal::Word(Word::Slash), Goal::FunctionArity])?;
+                .push_all(&[Goal::Symbol(Symbol::Slash), Goal::FunctionArity])?;
             Ok(())
         }
-        Token::Word(Word::Open) => {
+        Token::Symbol(Symbol::Open) => {
             let inner = inside(level)?;
             state
                 .goals
@@ -108,27 +116,29 @@ pub fn begin_function_name(level: u32, token: &Token, state: &mut State) -> Resu
     }
 }
 
-/// The first token of the name of a definition in a module. The number of `'module_info'` is put off
-/// until its arity tells whether it is kept.
+/// The first token of the name of a definition in a module. The number of `'module_info'` is put
+/// off until its arity tells whether it is kept.
 pub fn begin_definition_name(level: u32, token: &Token, state: &mut State) -> Result<(), StepFault>
-    ensures { GivesState result state.new (checked (annotation_mark level token.now) (definition_begun level state.old.goals state.old.values state.old.tables token.now)) }
+    ensures { GivesState result state.new
+        (checked (annotation_mark level token.now)
+        (definition_begun level state.old.goals state.old.values state.old.tables token.now)) }
 {
     match token {
         Token::Atom(text) => {
             if names_info(text.as_slice()) {
                 state
                     .goals
-                    .push_all(&[Goal::Word(Word::Slash), Goal::InfoArity])?;
+                    .push_all(&[Goal::Symbol(Symbol::Slash), Goal::InfoArity])?;
                 return Ok(());
             }
             let atom = number_of(&mut state.tables.atoms, text.as_slice())?;
             state.values.push(Value::Atom(atom))?;
             state
                 .goals
-                .push_all(&[Goal::Word(Word::Slash), Goal::FunctionArity])?;
+                .push_all(&[Goal::Symbol(Symbol::Slash), Goal::FunctionArity])?;
             Ok(())
         }
-        Token::Word(Word::Open) => {
+        Token::Symbol(Symbol::Open) => {
             let inner = inside(level)?;
             state
                 .goals
@@ -139,27 +149,29 @@ pub fn begin_definition_name(level: u32, token: &Token, state: &mut State) -> Re
     }
 }
 
-/// The first token of an exported name. The number of `'module_info'` is put off until its arity tells
-/// whether it is kept.
+/// The first token of an exported name. The number of `'module_info'` is put off until its arity
+/// tells whether it is kept.
 pub fn begin_export(level: u32, token: &Token, state: &mut State) -> Result<(), StepFault>
-    ensures { GivesState result state.new (checked (annotation_mark level token.now) (export_begun level state.old.goals state.old.values state.old.tables token.now)) }
+    ensures { GivesState result state.new
+        (checked (annotation_mark level token.now)
+        (export_begun level state.old.goals state.old.values state.old.tables token.now)) }
 {
     match token {
         Token::Atom(text) => {
             if names_info(text.as_slice()) {
                 state
                     .goals
-                    .push_all(&[Goal::Word(Word::Slash), Goal::InfoExportArity])?;
+                    .push_all(&[Goal::Symbol(Symbol::Slash), Goal::InfoExportArity])?;
                 return Ok(());
             }
             let atom = number_of(&mut state.tables.atoms, text.as_slice())?;
             state.values.push(Value::Atom(atom))?;
             state
                 .goals
-                .push_all(&[Goal::Word(Word::Slash), Goal::ExportArity])?;
+                .push_all(&[Goal::Symbol(Symbol::Slash), Goal::ExportArity])?;
             Ok(())
         }
-        Token::Word(Word::Open) => {
+        Token::Symbol(Symbol::Open) => {
             let inner = inside(level)?;
             state
                 .goals

@@ -1,19 +1,20 @@
 ghost use Rattle.std.specs.Prelude.{◌≡◌, ◌==◌, ◌<◌, ◌≤◌, ◌^◌, true, false, MatchOption};
 ghost use Rattle.hy_core.specs.Marks.{value, number};
-ghost use Rattle.core_parse.specs.Machine.{in_range};
+ghost use Rattle.core_parse.specs.code.Pushdown.{in_range};
 
 use hy_core::Sign;
 use hy_terms::LEAST_NUMBER;
 
-/// The size of the least number.
+// The size of the least number.
 const LARGEST_SIZE: u64 = (-LEAST_NUMBER) as u64;
 
-/// The largest number of a function's parameters.
+// The largest number of a function's parameters.
 const LARGEST_ARITY: u64 = 65_535;
 
-/// The number that digits spell, where it is no larger than the least number's size.
+// The number that digits spell, where it is no larger than the least number's size.
 fn size_of_digits(digits: &[u8]) -> Option<u64>
-    ensures { MatchOption result (2 ^ 59 < value digits.now) (λ n. (n ≡ value digits.now) × (n ≤ 2 ^ 59)) }
+    ensures { MatchOption result (2 ^ 59 < value digits.now)
+        (λ n. (n ≡ value digits.now) × (n ≤ 2 ^ 59)) }
 {
     let mut size: u64 = 0;
     for digit in digits {
@@ -45,7 +46,8 @@ pub fn integer(sign: Sign, digits: &[u8]) -> Option<i64>
 
 /// The arity that digits spell, where it is at most 65,535.
 pub fn arity(digits: &[u8]) -> Option<u32>
-    ensures { MatchOption result (65535 < value digits.now) (λ n. (n ≡ value digits.now) × (n ≤ 65535)) }
+    ensures { MatchOption result (65535 < value digits.now)
+        (λ n. (n ≡ value digits.now) × (n ≤ 65535)) }
 {
     let size = size_of_digits(digits)?;
     if size <= LARGEST_ARITY {

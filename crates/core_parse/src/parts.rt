@@ -1,7 +1,7 @@
 ghost use Rattle.std.specs.Prelude.{◌≡◌, IfOk};
-ghost use Rattle.core_parse.specs.Trees.{opened, added, closed};
-ghost use Rattle.core_parse.specs.Trees.{expr_added, pattern_added, variable_added, exprs_closed, patterns_closed, atom_built};
-ghost use Rattle.core_parse.specs.Steps.{GivesWhere};
+ghost use Rattle.core_parse.specs.code.Trees.{opened, added, closed};
+ghost use Rattle.core_parse.specs.code.Trees.{expr_added, pattern_added, variable_added, exprs_closed, patterns_closed, atom_built};
+ghost use Rattle.core_parse.specs.code.Steps.{GivesWhere};
 
 use crate::answer::{StepFault, UNEXPECTED};
 use crate::join::{list_of, pattern_list_of};

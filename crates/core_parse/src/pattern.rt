@@ -1,20 +1,20 @@
 ghost use Rattle.std.specs.Prelude.{◌≡◌, IfOk};
 ghost use Rattle.hy_core.specs.Marks.{at, constant};
 ghost use Rattle.hy_core.specs.Patterns.{string_pattern};
-ghost use Rattle.core_parse.specs.Machine.{checked, pattern_begun, pattern_opened, constant_begun, constant_opened, value_begun, value_mark, clause_begun, clause_mark, clause_rest};
-ghost use Rattle.core_parse.specs.Answers.{GivesState};
-ghost use Rattle.hy_core.specs.declared.token.Token.TheVariants.{Word as WordToken};
+ghost use Rattle.core_parse.specs.code.Pushdown.{checked, pattern_begun, pattern_opened, constant_begun, constant_opened, value_begun, value_mark, clause_begun, clause_mark, clause_rest};
+ghost use Rattle.core_parse.specs.code.Verdicts.{GivesState};
+ghost use Rattle.hy_core.specs.declared.token.Token.TheVariants.{Symbol as SymbolToken};
 
 use crate::answer::StepFault;
 use crate::interning::number_of;
 use crate::level::inside;
 use crate::number::integer;
 use crate::state::{Closer, Form, Goal, Part, State, Value};
-use hy_core::{Pattern, RefusalKind, Text, Token, Word};
+use hy_core::{Pattern, RefusalKind, Symbol, Text, Token};
 use sqlite_items::Items;
 use std::alloc::{AllocError, Global};
 
-/// A string, which is nil where it is empty.
+// A string, which is nil where it is empty.
 fn string(alloc: Global, bytes: &[u8]) -> Result<Pattern, AllocError>
     ensures { IfOk result (λ x. x ≡ string_pattern bytes.now) }
 {
@@ -31,7 +31,9 @@ pub fn begin_pattern(
     token: &Token,
     state: &mut State,
 ) -> Result<(), StepFault>
-    ensures { GivesState result state.new (checked (at level token.now) (pattern_begun level state.old.goals state.old.values state.old.tables token.now)) }
+    ensures { GivesState result state.new
+        (checked (at level token.now) (pattern_begun level state.old.goals state.old.values
+        state.old.tables token.now)) }
 {
     match token {
         Token::Integer(sign, digits) => {
@@ -64,29 +66,36 @@ pub fn begin_pattern(
             state.values.push(Value::Pattern(Pattern::Var(var)))?;
             state.goals.push(Goal::Alias(level))?;
         }
-        Token::Word(word) => open_pattern(alloc, level, *word, state)?,
+        Token::Symbol(symbol) => open_pattern(alloc, level, *symbol, state)?,
     }
     Ok(())
 }
 
-/// The mark that begins a pattern of this level.
-fn open_pattern(alloc: Global, level: u32, word: Word, state: &mut State) -> Result<(), StepFault>
-    ensures { GivesState result state.new (checked (at level (WordToken word)) (pattern_opened level state.old.goals state.old.values state.old.tables word)) }
+// The mark that begins a pattern of this level.
+fn open_pattern(
+    alloc: Global,
+    level: u32,
+    symbol: Symbol,
+    state: &mut State,
+) -> Result<(), StepFault>
+    ensures { GivesState result state.new
+        (checked (at level (SymbolToken symbol))
+        (pattern_opened level state.old.goals state.old.values state.old.tables symbol)) }
 {
-    match word {
-        Word::OpenList => {
+    match symbol {
+        Symbol::OpenList => {
             inside(level)?;
             state.values.push(Value::Patterns(Items::new(alloc)))?;
             state.goals.push(Goal::Heads(Part::Pattern, level))?;
         }
-        Word::OpenTuple => {
+        Symbol::OpenTuple => {
             let inner = inside(level)?;
             state.goals.push_all(&[
                 Goal::Parts(Part::Pattern, inner, Closer::Tuple),
                 Goal::Build(Form::PatternTuple),
             ])?;
         }
-        Word::Open => {
+        Symbol::Open => {
             let inner = inside(level)?;
             state.goals.push_all(&[
                 Goal::Part(Part::Pattern, inner),
@@ -107,10 +116,12 @@ pub fn begin_clause(
     token: &Token,
     state: &mut State,
 ) -> Result<(), StepFault>
-    ensures { GivesState result state.new (checked (clause_mark level token.now) (clause_begun level inner state.old.goals state.old.values state.old.tables token.now)) }
+    ensures { GivesState result state.new
+        (checked (clause_mark level token.now)
+        (clause_begun level inner state.old.goals state.old.values state.old.tables token.now)) }
 {
     match token {
-        Token::Word(Word::Open) => {
+        Token::Symbol(Symbol::Open) => {
             let inside_note = inside(level)?;
             state.goals.push_all(&[
                 Goal::Clause(inside_note, true),
@@ -118,11 +129,11 @@ pub fn begin_clause(
             ])?;
             Ok(())
         }
-        Token::Word(Word::Less) => {
+        Token::Symbol(Symbol::Less) => {
             push_clause_rest(level, state)?;
             state.goals.push_all(&[
                 Goal::Parts(Part::Pattern, level, Closer::Values),
-                Goal::Word(Word::When),
+                Goal::Symbol(Symbol::When),
             ])?;
             Ok(())
         }
@@ -135,11 +146,15 @@ pub fn begin_clause(
 
 /// A guard and a body are to be read.
 pub fn push_clause_rest(level: u32, state: &mut State) -> Result<(), AllocError>
-    ensures { IfOk result (λ _. state.new ≡ record { goals = clause_rest level state.old.goals; values = state.old.values; tables = state.old.tables }) }
+    ensures { IfOk result (λ _. state.new ≡ record {
+      goals = clause_rest level state.old.goals;
+      values = state.old.values;
+      tables = state.old.tables;
+    }) }
 {
     state.goals.push_all(&[
         Goal::Part(Part::Expr, level),
-        Goal::Word(Word::Arrow),
+        Goal::Symbol(Symbol::Arrow),
         Goal::Part(Part::Expr, level),
         Goal::Build(Form::Clause),
     ])

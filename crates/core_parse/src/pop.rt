@@ -1,6 +1,6 @@
 ghost use Rattle.std.specs.Prelude.{◌≡◌, IfOk};
-ghost use Rattle.core_parse.specs.Tops.{top_expr, top_exprs, top_pattern, top_patterns, top_variable, top_variables, top_clauses, top_functions, top_name, top_names, top_atom, top_head, has_pattern as has_pattern_on};
-ghost use Rattle.core_parse.specs.Steps.{GivesTop};
+ghost use Rattle.core_parse.specs.code.Tops.{top_expr, top_exprs, top_pattern, top_patterns, top_variable, top_variables, top_clauses, top_functions, top_name, top_names, top_atom, top_head, has_pattern as has_pattern_on};
+ghost use Rattle.core_parse.specs.code.Steps.{GivesTop};
 
 use crate::answer::{StepFault, UNEXPECTED};
 use crate::state::{Head, Value};

@@ -5,10 +5,11 @@ ghost use Rattle.hy_core.specs.Tokens.{AreWithin, EndsWithin};
 ghost use Rattle.hy_core.specs.declared.refusal.RefusalKind.{RefusalKind};
 ghost use Rattle.hy_core.specs.declared.refusal.RefusalKind.TheVariants as kinds;
 ghost use Rattle.hy_core.specs.declared.tree.Module.{Module};
-ghost use Rattle.core_parse.specs.Machine.{run, start};
+ghost use Rattle.core_parse.specs.code.Pushdown.{run, start};
 ghost use Rattle.std.specs.List.{AllByRecursion};
 ghost use Rattle.core_parse.specs.Answers.{IsSpace};
-ghost use Rattle.core_parse.specs.Answers.{Gives, IfRefused, GivesText, GivesTokens, behind, place_of, refused_as, verdict};
+ghost use Rattle.core_parse.specs.Answers.{Gives, IfRefused};
+ghost use Rattle.core_parse.specs.code.Verdicts.{GivesText, GivesTokens, behind, place_of, refused_as, verdict};
 
 use crate::answer::{ReadAnswer, Refused, RefusedToken, TokenAnswer};
 use crate::run::read_tokens;
@@ -16,15 +17,16 @@ use core_scan::lex;
 use hy_core::{Ending, Lexeme, Module, RefusalKind};
 use std::alloc::Global;
 
-/// The most bytes that a text has.
+// The most bytes that a text has.
 const MOST_BYTES: usize = 1 << 20;
 
-/// The tree of a module's text, exactly where the grammar gives it one. The atoms and the variables are
-/// numbered in the order in which the text has them first. Annotations, attributes and what is named
-/// `'module_info'/0` or `/1` are dropped, and leave nothing in the tables.
+/// The tree of a module's text, exactly where the grammar gives it one. The atoms and the variables
+/// are numbered in the order in which the text has them first. Annotations, attributes and what is
+/// named `'module_info'/0` or `/1` are dropped, and leave nothing in the tables.
 ///
-/// A text that is no module is `Refused` with what is wrong first and the byte at which it begins, or the
-/// length of the text where it ends early. A text of more than 2^20 bytes is refused as a whole.
+/// A text that is no module is `Refused` with what is wrong first and the byte at which it begins,
+/// or the length of the text where it ends early. A text of more than 2^20 bytes is refused as a
+/// whole.
 pub fn read_module(alloc: Global, bytes: &[u8]) -> Result<Module, ReadAnswer>
     // What is read is a module of this tree.
     ensures found { IfOk result (λ z. IsModuleText bytes.now z) }
@@ -33,26 +35,31 @@ pub fn read_module(alloc: Global, bytes: &[u8]) -> Result<Module, ReadAnswer>
     // A refusal names the first that is wrong, and its place.
     ensures refused { IfRefused result (λ kind place. IsRefusedText bytes.now kind place) }
     // The first that is wrong is refused, unless memory runs out.
-    ensures exactly { (kind : RefusalKind) (place : ℕ) → IsRefusedText bytes.now kind place → Gives result (Err (kind, place)) }
+    ensures exactly { (kind : RefusalKind) (place : ℕ) → IsRefusedText bytes.now kind place
+        → Gives result (Err (kind, place)) }
 {
     read_text(alloc, bytes)
 }
 
 /// No text has two trees.
 pub fn one_tree()
-    ensures { (bytes : List ℕ) (y z : Module) → IsModuleText bytes y → IsModuleText bytes z → y ≡ z }
+    ensures { (bytes : List ℕ) (y z : Module) → IsModuleText bytes y
+        → IsModuleText bytes z → y ≡ z }
 {}
 
 /// No text both is a module and is refused, and none is refused in two ways.
 pub fn one_verdict()
-    ensures no_module_is_refused { (bytes : List ℕ) (z : Module) (kind : RefusalKind) (place : ℕ) → IsModuleText bytes z → IsRefusedText bytes kind place → ⊥ }
-    ensures one_refusal { (bytes : List ℕ) (kind other : RefusalKind) (place there : ℕ) → IsRefusedText bytes kind place → IsRefusedText bytes other there →
-        (kind ≡ other) × (place ≡ there) }
+    ensures no_module_is_refused { (bytes : List ℕ) (z : Module) (kind : RefusalKind) (place : ℕ)
+        → IsModuleText bytes z → IsRefusedText bytes kind place → ⊥ }
+    ensures one_refusal { (bytes : List ℕ) (kind other : RefusalKind) (place there : ℕ)
+        → IsRefusedText bytes kind place → IsRefusedText bytes other there
+        → (kind ≡ other) × (place ≡ there) }
 {}
 
 /// A text of spaces alone, an empty one too, ends where a module is to begin.
 pub fn spaces_are_no_module()
-    ensures { (bytes : List ℕ) → AllByRecursion IsSpace bytes → length bytes ≤ 2 ^ 20 → IsRefusedText bytes kinds.Ended (length bytes) }
+    ensures { (bytes : List ℕ) → AllByRecursion IsSpace bytes → length bytes ≤ 2 ^ 20
+        → IsRefusedText bytes kinds.Ended (length bytes) }
 {}
 
 fn refused(kind: RefusalKind, place: usize) -> Result<Module, ReadAnswer>
@@ -74,7 +81,7 @@ fn read_text(alloc: Global, bytes: &[u8]) -> Result<Module, ReadAnswer>
     read_lexemes(alloc, bytes.len(), lexed.lexemes.as_slice(), lexed.ending)
 }
 
-/// The verdict on a text of so many bytes.
+// The verdict on a text of so many bytes.
 fn read_lexemes(
     alloc: Global,
     size: usize,
@@ -95,7 +102,7 @@ fn read_lexemes(
     }
 }
 
-/// What the end of a text answers whose tokens aren't wrong and no module.
+// What the end of a text answers whose tokens aren't wrong and no module.
 fn refused_behind(size: usize, ending: Ending) -> Result<Module, ReadAnswer>
     requires { EndsWithin size ending }
     ensures { Gives result (behind size ending (Err (kinds.Ended, size))) }
@@ -106,7 +113,7 @@ fn refused_behind(size: usize, ending: Ending) -> Result<Module, ReadAnswer>
     }
 }
 
-/// What a token that isn't taken answers, by its place.
+// What a token that isn't taken answers, by its place.
 fn refused_token(
     size: usize,
     lexemes: &[Lexeme],
@@ -123,7 +130,7 @@ fn refused_token(
     }
 }
 
-/// The place of a token.
+// The place of a token.
 fn place_at(size: usize, lexemes: &[Lexeme], index: usize) -> usize
     ensures { result ≡ place_of size lexemes.now index }
 {

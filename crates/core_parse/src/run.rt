@@ -1,20 +1,20 @@
 ghost use Rattle.std.specs.Prelude.{◌≡◌, [], length, IfOk};
 ghost use Rattle.hy_core.specs.Reading.{tokens_in};
-ghost use Rattle.core_parse.specs.Machine.{word_in, stepped, module_built, ended, ended_at, run, start};
-ghost use Rattle.core_parse.specs.Answers.{GivesState, GivesReading};
-ghost use Rattle.core_parse.specs.Steps.{GivesModule};
+ghost use Rattle.core_parse.specs.code.Pushdown.{symbol_in, stepped, module_built, ended, ended_at, run, start};
+ghost use Rattle.core_parse.specs.code.Verdicts.{GivesState, GivesReading};
+ghost use Rattle.core_parse.specs.code.Steps.{GivesModule};
 
 use crate::answer::{RefusedToken, StepFault, TokenAnswer, UNEXPECTED};
 use crate::pop::{pop_atom, pop_functions, pop_names};
 use crate::settle::next_goal;
 use crate::state::{Goal, State, Value};
 use crate::step::take;
-use hy_core::{Lexeme, Module, RefusalKind, Tables, Token, Word};
+use hy_core::{Lexeme, Module, RefusalKind, Symbol, Tables, Token};
 use hy_terms::Atoms;
 use stack::Stack;
 use std::alloc::{AllocError, Global};
 
-/// A module is to be read, and nothing was read.
+// A module is to be read, and nothing was read.
 fn begin(alloc: Global) -> Result<State, AllocError>
     ensures { IfOk result (λ state. state ≡ start) }
 {
@@ -30,26 +30,26 @@ fn begin(alloc: Global) -> Result<State, AllocError>
     })
 }
 
-fn word_of(token: &Token) -> Option<Word>
-    ensures { result ≡ word_in token.now }
+fn symbol_of(token: &Token) -> Option<Symbol>
+    ensures { result ≡ symbol_in token.now }
 {
     match token {
-        Token::Word(word) => Some(*word),
+        Token::Symbol(symbol) => Some(*symbol),
         _ => None,
     }
 }
 
-/// Takes one token.
+// Takes one token.
 fn step(alloc: Global, token: &Token, state: &mut State) -> Result<(), StepFault>
     ensures { GivesState result state.new (stepped state.old token.now) }
 {
-    match next_goal(alloc, word_of(token), state)? {
+    match next_goal(alloc, symbol_of(token), state)? {
         Some(goal) => take(alloc, goal, token, state),
         None => Err(UNEXPECTED),
     }
 }
 
-/// The module whose parts were read.
+// The module whose parts were read.
 fn build_module(values: Stack<Value>, tables: Tables) -> Result<Module, StepFault>
     ensures { GivesModule result (module_built values tables) }
 {
@@ -72,7 +72,7 @@ fn build_module(values: Stack<Value>, tables: Tables) -> Result<Module, StepFaul
     }
 }
 
-/// The module where no token is left.
+// The module where no token is left.
 fn finish(alloc: Global, state: State) -> Result<Module, StepFault>
     ensures { GivesModule result (ended state) }
 {
@@ -83,7 +83,7 @@ fn finish(alloc: Global, state: State) -> Result<Module, StepFault>
     }
 }
 
-/// What the end of so many tokens answers.
+// What the end of so many tokens answers.
 fn end(alloc: Global, state: State, index: usize) -> Result<Module, TokenAnswer>
     ensures { GivesReading result (ended_at index (ended state)) }
 {

@@ -1,14 +1,14 @@
 ghost use Rattle.std.specs.Prelude.{◌≡◌};
-ghost use Rattle.core_parse.specs.Machine.{checked, mark, goal_moved};
-ghost use Rattle.core_parse.specs.Answers.{GivesState};
+ghost use Rattle.core_parse.specs.code.Pushdown.{checked, mark, goal_moved};
+ghost use Rattle.core_parse.specs.code.Verdicts.{GivesState};
 ghost use Rattle.core_parse.specs.declared.state.Goal.TheVariants as g;
 
 use crate::answer::StepFault;
-use crate::behind::has_word;
+use crate::behind::has_symbol;
 use crate::named::{begin_definition_name, begin_function_name};
 use crate::pattern::begin_clause;
 use crate::state::{Closer, Form, Goal, State};
-use hy_core::{Token, Word};
+use hy_core::{Symbol, Token};
 use std::alloc::Global;
 
 /// The first token of a clause, or the keyword behind the last.
@@ -19,9 +19,12 @@ pub fn take_clauses(
     token: &Token,
     state: &mut State,
 ) -> Result<(), StepFault>
-    ensures { GivesState result state.new (checked (mark (g.Clauses level closer) token.now) (goal_moved (g.Clauses level closer) state.old.goals state.old.values state.old.tables token.now)) }
+    ensures { GivesState result state.new
+        (checked (mark (g.Clauses level closer) token.now)
+        (goal_moved (g.Clauses level closer) state.old.goals state.old.values
+        state.old.tables token.now)) }
 {
-    if has_word(token, closer.word()) {
+    if has_symbol(token, closer.symbol()) {
         return Ok(());
     }
     state.goals.push(Goal::Clauses(level, closer))?;
@@ -30,13 +33,16 @@ pub fn take_clauses(
 
 /// The first token of a function of a `letrec`, or the keyword behind the last.
 pub fn take_functions(level: u32, token: &Token, state: &mut State) -> Result<(), StepFault>
-    ensures { GivesState result state.new (checked (mark (g.Functions level) token.now) (goal_moved (g.Functions level) state.old.goals state.old.values state.old.tables token.now)) }
+    ensures { GivesState result state.new
+        (checked (mark (g.Functions level) token.now)
+        (goal_moved (g.Functions level) state.old.goals state.old.values
+        state.old.tables token.now)) }
 {
-    if has_word(token, Word::In) {
+    if has_symbol(token, Symbol::In) {
         return Ok(());
     }
     state.goals.push_all(&[
-        Goal::Word(Word::Equals),
+        Goal::Symbol(Symbol::Equals),
         Goal::FunctionBody(level),
         Goal::Build(Form::Function),
         Goal::Functions(level),
@@ -46,13 +52,16 @@ pub fn take_functions(level: u32, token: &Token, state: &mut State) -> Result<()
 
 /// The first token of a definition of a module, or the keyword behind the last.
 pub fn take_definitions(level: u32, token: &Token, state: &mut State) -> Result<(), StepFault>
-    ensures { GivesState result state.new (checked (mark (g.Definitions level) token.now) (goal_moved (g.Definitions level) state.old.goals state.old.values state.old.tables token.now)) }
+    ensures { GivesState result state.new
+        (checked (mark (g.Definitions level) token.now)
+        (goal_moved (g.Definitions level) state.old.goals state.old.values
+        state.old.tables token.now)) }
 {
-    if has_word(token, Word::End) {
+    if has_symbol(token, Symbol::End) {
         return Ok(());
     }
     state.goals.push_all(&[
-        Goal::Word(Word::Equals),
+        Goal::Symbol(Symbol::Equals),
         Goal::FunctionBody(level),
         Goal::Build(Form::Definition),
         Goal::Definitions(level),

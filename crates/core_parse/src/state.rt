@@ -1,4 +1,4 @@
-use hy_core::{Clause, Expr, FunName, Function, Pattern, Tables, Word};
+use hy_core::{Clause, Expr, FunName, Function, Pattern, Symbol, Tables};
 use sqlite_items::Items;
 use stack::Stack;
 
@@ -73,7 +73,7 @@ pub enum Form {
 #[derive(Clone, Copy, Debug, PartialEq, Eq)]
 pub enum Goal {
     /// This keyword or mark.
-    Word(Word),
+    Symbol(Symbol),
     Part(Part, u32),
     /// Parts with commas between them, and what closes them.
     Parts(Part, u32, Closer),

@@ -1,7 +1,7 @@
 ghost use Rattle.std.specs.Prelude.{◌≡◌, true, false};
 ghost use Rattle.hy_core.specs.Marks.{plain};
-ghost use Rattle.core_parse.specs.Machine.{is_word, is_next, closing, checked, mark, part_mark, arity_mark, part_begun, parts_moved, more_parts_moved, heads_moved, more_heads_moved, tail_moved, arity_moved, function_arity_moved, info_arity_moved, export_arity_moved, info_export_moved, aliased_by, alias_moved, clauses_moved, clause_rest_moved, behind_note, note_rest, functions_moved, definitions_moved, goal_moved};
-ghost use Rattle.core_parse.specs.Answers.{GivesState};
+ghost use Rattle.core_parse.specs.code.Pushdown.{is_symbol, is_next, closing, checked, mark, part_mark, arity_mark, part_begun, parts_moved, more_parts_moved, heads_moved, more_heads_moved, tail_moved, arity_moved, function_arity_moved, info_arity_moved, export_arity_moved, info_export_moved, aliased_by, alias_moved, clauses_moved, clause_rest_moved, behind_note, note_rest, functions_moved, definitions_moved, goal_moved};
+ghost use Rattle.core_parse.specs.code.Verdicts.{GivesState};
 ghost use Rattle.core_parse.specs.declared.state.Goal.TheVariants as g;
 
 use crate::answer::{StepFault, UNEXPECTED};
@@ -21,10 +21,12 @@ use std::alloc::Global;
 
 /// The goal that was on top takes the token.
 pub fn take(alloc: Global, goal: Goal, token: &Token, state: &mut State) -> Result<(), StepFault>
-    ensures { GivesState result state.new (checked (mark goal token.now) (goal_moved goal state.old.goals state.old.values state.old.tables token.now)) }
+    ensures { GivesState result state.new
+        (checked (mark goal token.now) (goal_moved goal state.old.goals state.old.values
+        state.old.tables token.now)) }
 {
     match goal {
-        Goal::Word(word) => want(token, word),
+        Goal::Symbol(symbol) => want(token, symbol),
         Goal::Part(part, level) => take_part(alloc, part, level, token, state),
         Goal::Parts(part, level, closer) => take_parts(alloc, part, level, closer, token, state),
         Goal::MoreParts(part, level, closer) => {

@@ -9,7 +9,7 @@ use Rattle.hy_core.specs.Expressions as exprs
 use Rattle.hy_core.specs.Expressions.{IsExpr, AreExprs, AreMoreExprs, IsList, IsListEnd, IsTail, IsClause, AreClauses, IsFunction, AreFunctions}
 use Rattle.hy_core.specs.Grammar as mods
 use Rattle.hy_core.specs.Grammar.{IsExport, AreExports, AreMoreExports}
-use Rattle.hy_core.specs.declared.token.Word.{Word}
+use Rattle.hy_core.specs.declared.token.Symbol.{Symbol}
 use Rattle.hy_core.specs.declared.tables.Tables.{Tables}
 use Rattle.hy_core.specs.declared.tree.FunName.{FunName}
 use Rattle.hy_core.specs.declared.tree.Function.{Function}
@@ -29,11 +29,11 @@ mutual
   constant_left (notes.tuple d) f = constants_left d f.1
   constant_left (notes.list d) f = constant_list_left d f.1
 
-  constants_left : {n : ℕ} {close : Word} {ms q : List Marked} → AreConstants n close ms q → AreFine ms → AreFine q
+  constants_left : {n : ℕ} {close : Symbol} {ms q : List Marked} → AreConstants n close ms q → AreFine ms → AreFine q
   constants_left notes.no_constants f = f.1
   constants_left (notes.some_constants d more) f = more_constants_left more (constant_left d f)
 
-  more_constants_left : {n : ℕ} {close : Word} {ms q : List Marked} → AreMoreConstants n close ms q → AreFine ms → AreFine q
+  more_constants_left : {n : ℕ} {close : Symbol} {ms q : List Marked} → AreMoreConstants n close ms q → AreFine ms → AreFine q
   more_constants_left notes.no_more f = f.1
   more_constants_left (notes.one_more d more) f = more_constants_left more (constant_left d f.1)
 
@@ -65,11 +65,11 @@ attribute_value_left : {n : ℕ} {ms q : List Marked} → IsAttributeValue n ms 
 attribute_value_left (notes.unannotated d) f = constant_left d f
 attribute_value_left (notes.noted d end) f = note_left end (attribute_value_left d f.1)
 
-more_attributes_left : {n : ℕ} {close : Word} {ms q : List Marked} → AreMoreAttributes n close ms q → AreFine ms → AreFine q
+more_attributes_left : {n : ℕ} {close : Symbol} {ms q : List Marked} → AreMoreAttributes n close ms q → AreFine ms → AreFine q
 more_attributes_left notes.no_more f = f.1
 more_attributes_left (notes.one_more d value more) f = more_attributes_left more (attribute_value_left value (atom_left d f.1).1)
 
-pub attributes_left : {n : ℕ} {close : Word} {ms q : List Marked} → AreAttributes n close ms q → AreFine ms → AreFine q
+pub attributes_left : {n : ℕ} {close : Symbol} {ms q : List Marked} → AreAttributes n close ms q → AreFine ms → AreFine q
 attributes_left notes.none f = f.1
 attributes_left (notes.some d value more) f = more_attributes_left more (attribute_value_left value (atom_left d f).1)
 
@@ -79,11 +79,11 @@ pub variable_left : {n : ℕ} {s u : Tables} {ms q : List Marked} {v : ℕ} → 
 variable_left (pats.variable name) f = f.1
 variable_left (pats.noted d end) f = note_left end (variable_left d f.1)
 
-more_variables_left : {n : ℕ} {close : Word} {s u : Tables} {ms q : List Marked} {vs : List ℕ} → AreMoreVariables n close s ms vs u q → AreFine ms → AreFine q
+more_variables_left : {n : ℕ} {close : Symbol} {s u : Tables} {ms q : List Marked} {vs : List ℕ} → AreMoreVariables n close s ms vs u q → AreFine ms → AreFine q
 more_variables_left pats.no_more f = f.1
 more_variables_left (pats.one_more d more) f = more_variables_left more (variable_left d f.1)
 
-pub variables_left : {n : ℕ} {close : Word} {s u : Tables} {ms q : List Marked} {vs : List ℕ} → AreVariables n close s ms vs u q → AreFine ms → AreFine q
+pub variables_left : {n : ℕ} {close : Symbol} {s u : Tables} {ms q : List Marked} {vs : List ℕ} → AreVariables n close s ms vs u q → AreFine ms → AreFine q
 variables_left pats.none f = f.1
 variables_left (pats.some d more) f = more_variables_left more (variable_left d f)
 
@@ -107,11 +107,11 @@ mutual
   pattern_left (pats.list d) f = pattern_list_left d f.1
   pattern_left (pats.noted d end before) f = note_left end (pattern_left d f.1)
 
-  pub patterns_left : {n : ℕ} {close : Word} {s u : Tables} {ms q : List Marked} {xs : List Pattern} → ArePatterns n close s ms xs u q → AreFine ms → AreFine q
+  pub patterns_left : {n : ℕ} {close : Symbol} {s u : Tables} {ms q : List Marked} {xs : List Pattern} → ArePatterns n close s ms xs u q → AreFine ms → AreFine q
   patterns_left pats.no_patterns f = f.1
   patterns_left (pats.some_patterns d more) f = more_patterns_left more (pattern_left d f)
 
-  more_patterns_left : {n : ℕ} {close : Word} {s u : Tables} {ms q : List Marked} {xs : List Pattern} → AreMorePatterns n close s ms xs u q → AreFine ms → AreFine q
+  more_patterns_left : {n : ℕ} {close : Symbol} {s u : Tables} {ms q : List Marked} {xs : List Pattern} → AreMorePatterns n close s ms xs u q → AreFine ms → AreFine q
   more_patterns_left pats.no_more f = f.1
   more_patterns_left (pats.one_more d more) f = more_patterns_left more (pattern_left d f.1)
 
@@ -154,11 +154,11 @@ mutual
   expr_left (exprs.fun d1 d2) f = expr_left d2 (variables_left d1 f.1.1).1
   expr_left (exprs.noted d end) f = note_left end (expr_left d f.1)
 
-  exprs_left : {n : ℕ} {close : Word} {s u : Tables} {ms q : List Marked} {xs : List Expr} → AreExprs n close s ms xs u q → AreFine ms → AreFine q
+  exprs_left : {n : ℕ} {close : Symbol} {s u : Tables} {ms q : List Marked} {xs : List Expr} → AreExprs n close s ms xs u q → AreFine ms → AreFine q
   exprs_left exprs.no_exprs f = f.1
   exprs_left (exprs.some_exprs d more) f = more_exprs_left more (expr_left d f)
 
-  more_exprs_left : {n : ℕ} {close : Word} {s u : Tables} {ms q : List Marked} {xs : List Expr} → AreMoreExprs n close s ms xs u q → AreFine ms → AreFine q
+  more_exprs_left : {n : ℕ} {close : Symbol} {s u : Tables} {ms q : List Marked} {xs : List Expr} → AreMoreExprs n close s ms xs u q → AreFine ms → AreFine q
   more_exprs_left exprs.no_more f = f.1
   more_exprs_left (exprs.one_more d more) f = more_exprs_left more (expr_left d f.1)
 
@@ -180,7 +180,7 @@ mutual
   clause_left (exprs.patterns d g y) f = expr_left y (expr_left g (patterns_left d f.1).1).1
   clause_left (exprs.noted_clause d end) f = note_left end (clause_left d f.1)
 
-  pub clauses_left : {n : ℕ} {close : Word} {s u : Tables} {ms q : List Marked} {cs : List Clause} → AreClauses n close s ms cs u q → AreFine ms → AreFine q
+  pub clauses_left : {n : ℕ} {close : Symbol} {s u : Tables} {ms q : List Marked} {cs : List Clause} → AreClauses n close s ms cs u q → AreFine ms → AreFine q
   clauses_left exprs.no_clauses f = f.1
   clauses_left (exprs.some_clauses d more) f = clauses_left more (clause_left d f)
 
@@ -198,10 +198,10 @@ pub export_left : {n : ℕ} {s u : Tables} {ms q : List Marked} {xs : List FunNa
 export_left (mods.kept d never) f = name_left d f
 export_left (mods.dropped d is) f = name_left d f
 
-more_exports_left : {n : ℕ} {close : Word} {s u : Tables} {ms q : List Marked} {xs : List FunName} → AreMoreExports n close s ms xs u q → AreFine ms → AreFine q
+more_exports_left : {n : ℕ} {close : Symbol} {s u : Tables} {ms q : List Marked} {xs : List FunName} → AreMoreExports n close s ms xs u q → AreFine ms → AreFine q
 more_exports_left mods.no_more f = f.1
 more_exports_left (mods.one_more d more) f = more_exports_left more (export_left d f.1)
 
-pub exports_left : {n : ℕ} {close : Word} {s u : Tables} {ms q : List Marked} {xs : List FunName} → AreExports n close s ms xs u q → AreFine ms → AreFine q
+pub exports_left : {n : ℕ} {close : Symbol} {s u : Tables} {ms q : List Marked} {xs : List FunName} → AreExports n close s ms xs u q → AreFine ms → AreFine q
 exports_left mods.no_exports f = f.1
 exports_left (mods.some_exports d more) f = more_exports_left more (export_left d f)

@@ -1,11 +1,11 @@
 -- List notations are read again from their canonical tokens, joined with their tails.
 use Rattle.std.proofs.Common.{◌≡◌, ℕ, ◌+◌, ◌≤◌, ℤ, false, List, [], ◌∷◌, ◌++◌, map, refl, sym, ap, subst, ◌∙◌}
 use Rattle.std.proofs.lemmas.List.{append_assoc, append-nil}
-use Rattle.hy_core.specs.Marks.{Marked, at, word}
+use Rattle.hy_core.specs.Marks.{Marked, at, symbol}
 use Rattle.hy_core.specs.Expressions as exprs
 use Rattle.hy_core.specs.Expressions.{joined_at, joined, IsExpr, IsListEnd, IsTail}
 use Rattle.hy_core.specs.Canonical.{Part, part, token, after_commas, texts_of, list_end, expr_part, expr_text}
-use Rattle.hy_core.specs.declared.token.Word.TheVariants as w
+use Rattle.hy_core.specs.declared.token.Symbol.TheVariants as w
 use Rattle.hy_core.specs.declared.token.Token.TheVariants as t
 use Rattle.hy_core.specs.declared.tables.Tables.{Tables}
 use Rattle.hy_core.specs.declared.tree.Module.{Module}
@@ -17,7 +17,7 @@ use Rattle.core_print.proofs.Numbers.{IsSpelled}
 use Rattle.core_print.proofs.Tables.{Keeps}
 use Rattle.core_print.proofs.ListEnd.{list_end-nil, list_end-other}
 use Rattle.core_print.proofs.CanonicalForms as forms
-use Rattle.core_print.proofs.AgainPieces.{Piece, one_word, opened, ◌▷◌, deeper, same_text, first_part, next_part}
+use Rattle.core_print.proofs.AgainPieces.{Piece, one_symbol, opened, ◌▷◌, deeper, same_text, first_part, next_part}
 use Rattle.core_print.proofs.AgainStarts.{IsApart, IsItem, apart_item, no_list}
 use Rattle.core_print.proofs.AgainParts.{Again, again_no_deeper}
 
@@ -69,8 +69,8 @@ module _ {z : Module} where
       joins = λ ys. is.joins (ys ++ []);
       simple = is.joins;
       again = record {
-        piece = same_text (sym (list_end-other (expr_part z x) is.not_nil)) (one_word w.Bar ▷ deeper a.piece ▷ one_word w.CloseList);
-        reads = λ k r. (refl, exprs.tail (other_tail (starts (k + 1) (word w.CloseList ∷ r)) ((a.reads (k + 1) (word w.CloseList ∷ r)).1 refl)));
+        piece = same_text (sym (list_end-other (expr_part z x) is.not_nil)) (one_symbol w.Bar ▷ deeper a.piece ▷ one_symbol w.CloseList);
+        reads = λ k r. (refl, exprs.tail (other_tail (starts (k + 1) (symbol w.CloseList ∷ r)) ((a.reads (k + 1) (symbol w.CloseList ∷ r)).1 refl)));
         keeps = a.keeps;
       };
     }
@@ -97,7 +97,7 @@ module _ {z : Module} where
       let joins : (xs : List Expr) → joined xs e.Nil ≡ e.List 0 xs e.Nil = λ xs. ap (joined_at xs e.Nil) views.outs-Nil in
       record {
         again = record {
-          piece = same_text (sym (ap (λ (y : Part). y.text) (forms.part-Nil z))) (opened (t.Word w.OpenList) ((shallow, tt), tt) ▷ one_word w.CloseList);
+          piece = same_text (sym (ap (λ (y : Part). y.text) (forms.part-Nil z))) (opened (t.Symbol w.OpenList) ((shallow, tt), tt) ▷ one_symbol w.CloseList);
           reads = λ k r. (refl, λ after. exprs.list exprs.nil);
           keeps = keeps;
         };
@@ -107,7 +107,7 @@ module _ {z : Module} where
           joins = λ ys. joins (ys ++ []);
           simple = joins;
           again = record {
-            piece = same_text (sym (list_end-nil (expr_part z e.Nil) (ap (λ (y : Part). y.is_nil) (forms.part-Nil z)))) (one_word w.CloseList);
+            piece = same_text (sym (list_end-nil (expr_part z e.Nil) (ap (λ (y : Part). y.is_nil) (forms.part-Nil z)))) (one_symbol w.CloseList);
             reads = λ k r. (refl, exprs.closed);
             keeps = keeps;
           };
@@ -138,10 +138,10 @@ module _ {z : Module} where
       let is : joined (x ∷ xs) tail ≡ e.List 0 (x ∷ behind.heads) behind.end = behind.joins (x ∷ []) in
       record {
         again = record {
-          piece = same_text (sym (ap (expr_text z) is ∙ ap (λ (y : Part). y.text) (forms.part-List z 0 (x ∷ behind.heads) behind.end))) (opened (t.Word w.OpenList) ((shallow, tt), tt) ▷ first_part texts close (deeper a.piece) behind.again.piece);
+          piece = same_text (sym (ap (expr_text z) is ∙ ap (λ (y : Part). y.text) (forms.part-List z 0 (x ∷ behind.heads) behind.end))) (opened (t.Symbol w.OpenList) ((shallow, tt), tt) ▷ first_part texts close (deeper a.piece) behind.again.piece);
           reads = λ k r. (
             refl,
-            λ after. subst (λ (y : Expr). IsExpr k s (at k (t.Word w.OpenList) ∷ a.piece.front (k + 1) (behind.again.piece.front k r)) y o r) (behind.simple (x ∷ behind.heads) ∙ sym is)
+            λ after. subst (λ (y : Expr). IsExpr k s (at k (t.Symbol w.OpenList) ∷ a.piece.front (k + 1) (behind.again.piece.front k r)) y o r) (behind.simple (x ∷ behind.heads) ∙ sym is)
                 (exprs.list (exprs.heads ((a.reads (k + 1) (behind.again.piece.front k r)).1 (behind.again.reads k r).0) (behind.again.reads k r).1)),
           );
           keeps = a.keeps;

@@ -8,7 +8,7 @@ use Rattle.hy_core.specs.Annotations as notes
 use Rattle.hy_core.specs.Annotations.{IsAtom, IsName}
 use Rattle.hy_core.specs.Canonical.{token, atom_token, name_text}
 use Rattle.hy_core.specs.Expressions.{named_by}
-use Rattle.hy_core.specs.declared.token.Word.TheVariants as w
+use Rattle.hy_core.specs.declared.token.Symbol.TheVariants as w
 use Rattle.hy_core.specs.declared.token.Token.TheVariants as t
 use Rattle.hy_core.specs.declared.tables.Tables.{Tables}
 use Rattle.hy_core.specs.declared.tree.FunName.{FunName}
@@ -16,7 +16,7 @@ use Rattle.hy_core.specs.declared.tree.Module.{Module}
 use Rattle.core_print.proofs.Spelling.{AreBytes, AreFine}
 use Rattle.core_print.proofs.Numbers.{decimal_digits, decimal_value}
 use Rattle.core_print.proofs.Tables.{Keeps, atom_kept}
-use Rattle.core_print.proofs.AgainPieces.{Piece, one, one_word, ◌▷◌, same_text}
+use Rattle.core_print.proofs.AgainPieces.{Piece, one, one_symbol, ◌▷◌, same_text}
 
 pub atom_bytes : {n : ℕ} {ms q : List Marked} {text : List ℕ} → IsAtom n ms text q → AreFine ms → AreBytes text
 atom_bytes (notes.atom text) f = f.0.1
@@ -52,4 +52,4 @@ module _ {z : Module} (s : Tables) (text : List ℕ) (keeps : Keeps (with_atom s
   atom_piece bytes = same_text atom_spelled (one (plain (t.Atom text)) ((omega arith, tt), bytes))
 
   abbrev pub name_piece : {n : ℕ} {digits : List ℕ} → IsFineName text digits → Piece n (name_text z (named_by (atom_number s text) digits))
-  name_piece is = atom_piece is.bytes ▷ one_word w.Slash ▷ arity_piece is
+  name_piece is = atom_piece is.bytes ▷ one_symbol w.Slash ▷ arity_piece is

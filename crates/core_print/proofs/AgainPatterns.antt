@@ -1,25 +1,25 @@
 -- Patterns are read again from their canonical tokens.
 use Rattle.std.proofs.Common.{◌≡◌, ℕ, ◌+◌, ◌≤◌, ℤ, true, false, List, [], ◌∷◌, ◌++◌, map, refl, sym, ap, subst, ◌∙◌}
 use Rattle.std.proofs.lemmas.List.{append_assoc, append-nil}
-use Rattle.hy_core.specs.Marks.{Marked, at, word, value}
+use Rattle.hy_core.specs.Marks.{Marked, at, symbol, value}
 use Rattle.hy_core.specs.Numbering.{atom_number}
 use Rattle.hy_core.specs.Patterns as pats
 use Rattle.hy_core.specs.Patterns.{joined_at, joined_pattern, IsPattern, ArePatterns, AreMorePatterns, IsPatternList, IsPatternEnd, IsPatternTail}
 use Rattle.hy_core.specs.Canonical.{Part, part, token, after_commas, with_commas, texts_of, list_end, pattern_part, pattern_text}
-use Rattle.hy_core.specs.declared.token.Word.{Word}
-use Rattle.hy_core.specs.declared.token.Word.TheVariants as w
+use Rattle.hy_core.specs.declared.token.Symbol.{Symbol}
+use Rattle.hy_core.specs.declared.token.Symbol.TheVariants as w
 use Rattle.hy_core.specs.declared.token.Token.TheVariants as t
 use Rattle.hy_core.specs.declared.tables.Tables.{Tables}
 use Rattle.hy_core.specs.declared.tree.Module.{Module}
 use Rattle.hy_core.specs.declared.tree.Pattern.{Pattern}
 use Rattle.hy_core.specs.declared.tree.Pattern.TheVariants as p
 use Rattle.hy_core.specs.declared.tree.Pattern.TheViews as views
-use Rattle.core_print.proofs.Spelling.{word_text, IsFine, AreFine}
+use Rattle.core_print.proofs.Spelling.{symbol_text, IsFine, AreFine}
 use Rattle.core_print.proofs.Numbers.{IsSpelled, integer_spelled, character_spelled}
 use Rattle.core_print.proofs.Tables.{Keeps, before_atom, before_variable, variable_kept}
 use Rattle.core_print.proofs.ListEnd.{list_end-nil, list_end-other}
 use Rattle.core_print.proofs.CanonicalForms as forms
-use Rattle.core_print.proofs.AgainPieces.{Piece, one_word, opened, ◌▷◌, deeper, same_text, first_part, next_part}
+use Rattle.core_print.proofs.AgainPieces.{Piece, one_symbol, opened, ◌▷◌, deeper, same_text, first_part, next_part}
 use Rattle.core_print.proofs.AgainLeft.{pattern_left, aliased_left}
 use Rattle.core_print.proofs.AgainStarts.{is_apart, IsApart, IsItem, apart_item, no_equals, no_list}
 use Rattle.core_print.proofs.AgainParts.{Again, again_no_deeper}
@@ -74,8 +74,8 @@ module _ {z : Module} where
       joins = λ ys. is.joins (ys ++ []);
       simple = is.joins;
       again = record {
-        piece = same_text (sym (list_end-other (pattern_part z x) is.not_nil)) (one_word w.Bar ▷ deeper a.piece ▷ one_word w.CloseList);
-        reads = λ k r. (refl, pats.tail (other_tail (starts (k + 1) (word w.CloseList ∷ r)) ((a.reads (k + 1) (word w.CloseList ∷ r)).1 refl)));
+        piece = same_text (sym (list_end-other (pattern_part z x) is.not_nil)) (one_symbol w.Bar ▷ deeper a.piece ▷ one_symbol w.CloseList);
+        reads = λ k r. (refl, pats.tail (other_tail (starts (k + 1) (symbol w.CloseList ∷ r)) ((a.reads (k + 1) (symbol w.CloseList ∷ r)).1 refl)));
         keeps = a.keeps;
       };
     }
@@ -102,7 +102,7 @@ module _ {z : Module} where
       let joins : (xs : List Pattern) → joined_pattern xs p.Nil ≡ p.List xs p.Nil = λ xs. ap (joined_at xs p.Nil) views.outs-Nil in
       record {
         again = record {
-          piece = same_text (sym (ap (λ (y : Part). y.text) (forms.pattern-Nil z))) (opened (t.Word w.OpenList) ((shallow, tt), tt) ▷ one_word w.CloseList);
+          piece = same_text (sym (ap (λ (y : Part). y.text) (forms.pattern-Nil z))) (opened (t.Symbol w.OpenList) ((shallow, tt), tt) ▷ one_symbol w.CloseList);
           reads = λ k r. (refl, λ after. pats.list pats.nil);
           keeps = keeps;
         };
@@ -112,7 +112,7 @@ module _ {z : Module} where
           joins = λ ys. joins (ys ++ []);
           simple = joins;
           again = record {
-            piece = same_text (sym (list_end-nil (pattern_part z p.Nil) (ap (λ (y : Part). y.is_nil) (forms.pattern-Nil z)))) (one_word w.CloseList);
+            piece = same_text (sym (list_end-nil (pattern_part z p.Nil) (ap (λ (y : Part). y.is_nil) (forms.pattern-Nil z)))) (one_symbol w.CloseList);
             reads = λ k r. (refl, pats.closed);
             keeps = keeps;
           };
@@ -143,10 +143,10 @@ module _ {z : Module} where
       let is : joined_pattern (x ∷ xs) tail ≡ p.List (x ∷ behind.heads) behind.end = behind.joins (x ∷ []) in
       record {
         again = record {
-          piece = same_text (sym (ap (pattern_text z) is ∙ ap (λ (y : Part). y.text) (forms.pattern-List z (x ∷ behind.heads) behind.end))) (opened (t.Word w.OpenList) ((shallow, tt), tt) ▷ first_part texts close (deeper a.piece) behind.again.piece);
+          piece = same_text (sym (ap (pattern_text z) is ∙ ap (λ (y : Part). y.text) (forms.pattern-List z (x ∷ behind.heads) behind.end))) (opened (t.Symbol w.OpenList) ((shallow, tt), tt) ▷ first_part texts close (deeper a.piece) behind.again.piece);
           reads = λ k r. (
             refl,
-            λ after. subst (λ (y : Pattern). IsPattern k s (at k (t.Word w.OpenList) ∷ a.piece.front (k + 1) (behind.again.piece.front k r)) y o r) (behind.simple (x ∷ behind.heads) ∙ sym is)
+            λ after. subst (λ (y : Pattern). IsPattern k s (at k (t.Symbol w.OpenList) ∷ a.piece.front (k + 1) (behind.again.piece.front k r)) y o r) (behind.simple (x ∷ behind.heads) ∙ sym is)
                 (pats.list (pats.heads ((a.reads (k + 1) (behind.again.piece.front k r)).1 (behind.again.reads k r).0) (behind.again.reads k r).1)),
           );
           keeps = a.keeps;
@@ -181,36 +181,36 @@ module _ {z : Module} where
         let b = as_pattern (pattern_again d2 keeps (aliased_left d1 f).1) in
         let a = aliased_again d1 b.keeps f in
         form (forms.pattern-Alias z v x) (λ xs. ap (joined_at xs (p.Alias v x)) (views.outs-Alias v x))
-        (a.piece ▷ one_word w.Equals ▷ deeper b.piece)
-        (λ k r. (a.reads k (word w.Equals ∷ b.piece.front (k + 1) r)).0)
-        (λ k r after. pats.alias (a.reads k (word w.Equals ∷ b.piece.front (k + 1) r)).1 ((b.reads (k + 1) r).1 after)) a.keeps
+        (a.piece ▷ one_symbol w.Equals ▷ deeper b.piece)
+        (λ k r. (a.reads k (symbol w.Equals ∷ b.piece.front (k + 1) r)).0)
+        (λ k r after. pats.alias (a.reads k (symbol w.Equals ∷ b.piece.front (k + 1) r)).1 ((b.reads (k + 1) r).1 after)) a.keeps
     pattern_again (pats.tuple {xs = xs} d) keeps f =
         let a = patterns_again refl d keeps f.1 in
         form (forms.pattern-Tuple z xs) (λ ys. ap (joined_at ys (p.Tuple xs)) (views.outs-Tuple xs))
-        (opened (t.Word w.OpenTuple) f.0 ▷ deeper a.piece) (λ k r. refl) (λ k r after. pats.tuple (a.reads (k + 1) r)) a.keeps
+        (opened (t.Symbol w.OpenTuple) f.0 ▷ deeper a.piece) (λ k r. refl) (λ k r after. pats.tuple (a.reads (k + 1) r)) a.keeps
     pattern_again (pats.list d) keeps f = list (pattern_list_again d keeps f.1 f.0.0.0)
     pattern_again (pats.noted d end before) keeps f = pattern_no_deeper (pattern_again d keeps f.1)
 
-    pub patterns_again : {n : ℕ} {close : Word} {s u : Tables} {ms q : List Marked} {xs : List Pattern} → is_apart (t.Word close) ≡ true → ArePatterns n close s ms xs u q → Keeps u z → AreFine ms
-        → Again n z s (with_commas (texts_of (map (pattern_part z) xs)) ++ token (word_text close)) (λ k ms r. ArePatterns k close s ms xs u r)
-    patterns_again {close = close} is pats.no_patterns keeps f = record { piece = one_word close; reads = λ k r. pats.no_patterns; keeps = keeps }
+    pub patterns_again : {n : ℕ} {close : Symbol} {s u : Tables} {ms q : List Marked} {xs : List Pattern} → is_apart (t.Symbol close) ≡ true → ArePatterns n close s ms xs u q → Keeps u z → AreFine ms
+        → Again n z s (with_commas (texts_of (map (pattern_part z) xs)) ++ token (symbol_text close)) (λ k ms r. ArePatterns k close s ms xs u r)
+    patterns_again {close = close} is pats.no_patterns keeps f = record { piece = one_symbol close; reads = λ k r. pats.no_patterns; keeps = keeps }
     patterns_again {close = close} is (pats.some_patterns {xs = xs} d more) keeps f =
         let b = more_patterns_again is more keeps (pattern_left d f) in
         let a = as_pattern (pattern_again d b.keeps f) in
         record {
-          piece = first_part (texts_of (map (pattern_part z) xs)) (token (word_text close)) a.piece b.piece;
+          piece = first_part (texts_of (map (pattern_part z) xs)) (token (symbol_text close)) a.piece b.piece;
           reads = λ k r. pats.some_patterns ((a.reads k (b.piece.front k r)).1 (b.reads k r).0) (b.reads k r).1;
           keeps = a.keeps;
         }
 
-    more_patterns_again : {n : ℕ} {close : Word} {s u : Tables} {ms q : List Marked} {xs : List Pattern} → is_apart (t.Word close) ≡ true → AreMorePatterns n close s ms xs u q → Keeps u z → AreFine ms
-        → Again n z s (after_commas (texts_of (map (pattern_part z) xs)) ++ token (word_text close)) (λ k ms r. IsApart ms × AreMorePatterns k close s ms xs u r)
-    more_patterns_again {close = close} is pats.no_more keeps f = record { piece = one_word close; reads = λ k r. (is, pats.no_more); keeps = keeps }
+    more_patterns_again : {n : ℕ} {close : Symbol} {s u : Tables} {ms q : List Marked} {xs : List Pattern} → is_apart (t.Symbol close) ≡ true → AreMorePatterns n close s ms xs u q → Keeps u z → AreFine ms
+        → Again n z s (after_commas (texts_of (map (pattern_part z) xs)) ++ token (symbol_text close)) (λ k ms r. IsApart ms × AreMorePatterns k close s ms xs u r)
+    more_patterns_again {close = close} is pats.no_more keeps f = record { piece = one_symbol close; reads = λ k r. (is, pats.no_more); keeps = keeps }
     more_patterns_again {close = close} is (pats.one_more {xs = xs} d more) keeps f =
         let b = more_patterns_again is more keeps (pattern_left d f.1) in
         let a = as_pattern (pattern_again d b.keeps f.1) in
         record {
-          piece = next_part (texts_of (map (pattern_part z) xs)) (token (word_text close)) a.piece b.piece;
+          piece = next_part (texts_of (map (pattern_part z) xs)) (token (symbol_text close)) a.piece b.piece;
           reads = λ k r. (refl, pats.one_more ((a.reads k (b.piece.front k r)).1 (b.reads k r).0) (b.reads k r).1);
           keeps = a.keeps;
         }

@@ -1,12 +1,12 @@
 -- Pieces of canonical tokens, put before any others, with their text.
 use Rattle.std.proofs.Common.{◌≡◌, ℕ, ◌+◌, ◌≤◌, List, ◌∷◌, ◌++◌, refl, sym, ap, ◌∙◌, arith}
 use Rattle.std.proofs.lemmas.List.{append_assoc}
-use Rattle.hy_core.specs.Marks.{Marked, at, word}
+use Rattle.hy_core.specs.Marks.{Marked, at, symbol}
 use Rattle.hy_core.specs.Canonical.{token, after_commas, with_commas, one_after_another}
-use Rattle.hy_core.specs.declared.token.Word.{Word}
-use Rattle.hy_core.specs.declared.token.Word.TheVariants as w
+use Rattle.hy_core.specs.declared.token.Symbol.{Symbol}
+use Rattle.hy_core.specs.declared.token.Symbol.TheVariants as w
 use Rattle.hy_core.specs.declared.token.Token.{Token}
-use Rattle.core_print.proofs.Spelling.{token_text, word_text, spaced, IsFine, AreFine}
+use Rattle.core_print.proofs.Spelling.{token_text, symbol_text, spaced, IsFine, AreFine}
 
 -- tokens of this text by their level, which are fine at levels up to n
 pub record Piece (n : ℕ) (text : List ℕ) : Type 0 where
@@ -18,8 +18,8 @@ pub record Piece (n : ℕ) (text : List ℕ) : Type 0 where
 abbrev pub one : {n : ℕ} (m : Marked) → IsFine m → Piece n (token (token_text m.token))
 one m is = record { front = λ k r. m ∷ r; spells = λ k r. refl; fine = λ k le r f. (is, f) }
 
-abbrev pub one_word : {n : ℕ} (k : Word) → Piece n (token (word_text k))
-one_word k = one (word k) ((omega arith, tt), tt)
+abbrev pub one_symbol : {n : ℕ} (k : Symbol) → Piece n (token (symbol_text k))
+one_symbol k = one (symbol k) ((omega arith, tt), tt)
 
 -- a token that begins one
 abbrev pub opened : {n : ℕ} (k : Token) → IsFine (at n k) → Piece n (token (token_text k))
@@ -56,7 +56,7 @@ module _ {n : ℕ} {a : List ℕ} (texts : List (List ℕ)) (close : List ℕ) (
   first_part q = before (after_commas texts) close p q
 
   abbrev pub next_part : Piece n (after_commas texts ++ close) → Piece n (after_commas (a ∷ texts) ++ close)
-  next_part q = one_word w.Comma ▷ first_part q
+  next_part q = one_symbol w.Comma ▷ first_part q
 
   abbrev pub another_part : Piece n (one_after_another texts ++ close) → Piece n (one_after_another (a ∷ texts) ++ close)
   another_part q = before (one_after_another texts) close p q

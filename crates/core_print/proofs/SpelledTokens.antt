@@ -3,13 +3,13 @@ use Rattle.std.proofs.Common.{◌≡◌, ℕ, Bool, true, false, ◌&&◌, List,
 use Rattle.std.specs.List.{list_all}
 use Rattle.hy_core.specs.Bytes.{class_of, mark_of, plain_class, is_digit, is_lower, is_variable_part, Pass, Stops}
 use Rattle.hy_terms.specs.Texts.{octal_digits}
-use Rattle.hy_core.specs.Tokens.{keyword, IsToken, integer, signed, escape, atom, string, variable, word, mark, mark_of_two}
+use Rattle.hy_core.specs.Tokens.{keyword, IsToken, integer, signed, escape, atom, string, variable, a_keyword, mark, mark_of_two}
 use Rattle.core_print.proofs.Quoting.{single, double, backslash_class, octal_escape, quote_class, quoted_body}
-use Rattle.core_print.proofs.Spelling.{word_text, token_text, sign_text, AreDigits, digits, IsVariableName, variable_name, IsWritten}
+use Rattle.core_print.proofs.Spelling.{symbol_text, token_text, sign_text, AreDigits, digits, IsVariableName, variable_name, IsWritten}
 use Rattle.hy_core.specs.declared.token.ByteClass.{ByteClass}
 use Rattle.hy_core.specs.declared.token.ByteClass.TheVariants as c
-use Rattle.hy_core.specs.declared.token.Word.{Word}
-use Rattle.hy_core.specs.declared.token.Word.TheVariants as w
+use Rattle.hy_core.specs.declared.token.Symbol.{Symbol}
+use Rattle.hy_core.specs.declared.token.Symbol.TheVariants as w
 use Rattle.hy_core.specs.declared.token.Sign.{Sign}
 use Rattle.hy_core.specs.declared.token.Sign.TheVariants as g
 use Rattle.hy_core.specs.declared.token.Token.{Token}
@@ -35,7 +35,7 @@ stops : (p : ByteClass → Bool) (rest : List ℕ) → p c.Space ≡ false → B
 stops p [] bare gap = tt
 stops p (b ∷ bs) bare gap = rw gap bare
 
--- ---- words
+-- ---- symbols
 
 -- letters that pass one by one do
 lower_passes : (ls : List ℕ) → list_all (λ b. is_lower (class_of b)) ls ≡ true → Pass is_lower ls
@@ -47,44 +47,44 @@ lower_passes (l ∷ ls) is = at (is_lower (class_of l)) refl is (lower_passes ls
     at false low is behind = absurd cc
 
 -- letters that are a keyword
-keyword_token : {l : ℕ} {ls : List ℕ} {k : Word} (rest : List ℕ) → class_of l ≡ c.Lower → list_all (λ b. is_lower (class_of b)) ls ≡ true → keyword (l ∷ ls) ≡ Some k → BeginsGap rest → IsToken (l ∷ ls) rest (t.Word k)
-keyword_token {ls = ls} rest first low key gap = word first (lower_passes ls low) (stops is_lower rest refl gap) key
+keyword_token : {l : ℕ} {ls : List ℕ} {k : Symbol} (rest : List ℕ) → class_of l ≡ c.Lower → list_all (λ b. is_lower (class_of b)) ls ≡ true → keyword (l ∷ ls) ≡ Some k → BeginsGap rest → IsToken (l ∷ ls) rest (t.Symbol k)
+keyword_token {ls = ls} rest first low key gap = a_keyword first (lower_passes ls low) (stops is_lower rest refl gap) key
 
-spelled_word : (k : Word) (rest : List ℕ) → BeginsGap rest → IsToken (word_text k) rest (t.Word k)
+spelled_symbol : (k : Symbol) (rest : List ℕ) → BeginsGap rest → IsToken (symbol_text k) rest (t.Symbol k)
 unfolding class_of mark_of plain_class keyword
-spelled_word w.After rest gap = keyword_token rest refl refl refl gap
-spelled_word w.Apply rest gap = keyword_token rest refl refl refl gap
-spelled_word w.Attributes rest gap = keyword_token rest refl refl refl gap
-spelled_word w.Call rest gap = keyword_token rest refl refl refl gap
-spelled_word w.Case rest gap = keyword_token rest refl refl refl gap
-spelled_word w.Catch rest gap = keyword_token rest refl refl refl gap
-spelled_word w.Do rest gap = keyword_token rest refl refl refl gap
-spelled_word w.End rest gap = keyword_token rest refl refl refl gap
-spelled_word w.Fun rest gap = keyword_token rest refl refl refl gap
-spelled_word w.In rest gap = keyword_token rest refl refl refl gap
-spelled_word w.Let rest gap = keyword_token rest refl refl refl gap
-spelled_word w.Letrec rest gap = keyword_token rest refl refl refl gap
-spelled_word w.Module rest gap = keyword_token rest refl refl refl gap
-spelled_word w.Of rest gap = keyword_token rest refl refl refl gap
-spelled_word w.Primop rest gap = keyword_token rest refl refl refl gap
-spelled_word w.Receive rest gap = keyword_token rest refl refl refl gap
-spelled_word w.Try rest gap = keyword_token rest refl refl refl gap
-spelled_word w.When rest gap = keyword_token rest refl refl refl gap
-spelled_word w.Open rest gap = mark refl
-spelled_word w.Close rest gap = mark refl
-spelled_word w.OpenTuple rest gap = mark refl
-spelled_word w.CloseTuple rest gap = mark refl
-spelled_word w.OpenList rest gap = mark refl
-spelled_word w.CloseList rest gap = mark refl
-spelled_word w.Less rest gap = mark refl
-spelled_word w.Greater rest gap = mark refl
-spelled_word w.Comma rest gap = mark refl
-spelled_word w.Colon rest gap = mark refl
-spelled_word w.Slash rest gap = mark refl
-spelled_word w.Equals rest gap = mark refl
-spelled_word w.Bar rest gap = mark refl
-spelled_word w.Arrow rest gap = mark_of_two refl refl
-spelled_word w.NoteBar rest gap = mark_of_two refl refl
+spelled_symbol w.After rest gap = keyword_token rest refl refl refl gap
+spelled_symbol w.Apply rest gap = keyword_token rest refl refl refl gap
+spelled_symbol w.Attributes rest gap = keyword_token rest refl refl refl gap
+spelled_symbol w.Call rest gap = keyword_token rest refl refl refl gap
+spelled_symbol w.Case rest gap = keyword_token rest refl refl refl gap
+spelled_symbol w.Catch rest gap = keyword_token rest refl refl refl gap
+spelled_symbol w.Do rest gap = keyword_token rest refl refl refl gap
+spelled_symbol w.End rest gap = keyword_token rest refl refl refl gap
+spelled_symbol w.Fun rest gap = keyword_token rest refl refl refl gap
+spelled_symbol w.In rest gap = keyword_token rest refl refl refl gap
+spelled_symbol w.Let rest gap = keyword_token rest refl refl refl gap
+spelled_symbol w.Letrec rest gap = keyword_token rest refl refl refl gap
+spelled_symbol w.Module rest gap = keyword_token rest refl refl refl gap
+spelled_symbol w.Of rest gap = keyword_token rest refl refl refl gap
+spelled_symbol w.Primop rest gap = keyword_token rest refl refl refl gap
+spelled_symbol w.Receive rest gap = keyword_token rest refl refl refl gap
+spelled_symbol w.Try rest gap = keyword_token rest refl refl refl gap
+spelled_symbol w.When rest gap = keyword_token rest refl refl refl gap
+spelled_symbol w.Open rest gap = mark refl
+spelled_symbol w.Close rest gap = mark refl
+spelled_symbol w.OpenTuple rest gap = mark refl
+spelled_symbol w.CloseTuple rest gap = mark refl
+spelled_symbol w.OpenList rest gap = mark refl
+spelled_symbol w.CloseList rest gap = mark refl
+spelled_symbol w.Less rest gap = mark refl
+spelled_symbol w.Greater rest gap = mark refl
+spelled_symbol w.Comma rest gap = mark refl
+spelled_symbol w.Colon rest gap = mark refl
+spelled_symbol w.Slash rest gap = mark refl
+spelled_symbol w.Equals rest gap = mark refl
+spelled_symbol w.Bar rest gap = mark refl
+spelled_symbol w.Arrow rest gap = mark_of_two refl refl
+spelled_symbol w.NoteBar rest gap = mark_of_two refl refl
 
 -- ---- all tokens
 
@@ -115,4 +115,4 @@ spelled_token (t.Character code) rest is gap = escape {es = octal_digits code} d
 spelled_token (t.Atom text) rest is gap = atom (quote_class 39 c.Quote single) (quoted_body 39 c.Quote text single is)
 spelled_token (t.Str text) rest is gap = string (quote_class 34 c.DoubleQuote double) (quoted_body 34 c.DoubleQuote text double is)
 spelled_token (t.Variable name) rest is gap = spelled_variable name rest is gap
-spelled_token (t.Word k) rest is gap = spelled_word k rest gap
+spelled_token (t.Symbol k) rest is gap = spelled_symbol k rest gap

@@ -5,47 +5,47 @@ use Rattle.hy_terms.specs.Texts.{atom_text, octal_digits, quoted}
 use Rattle.hy_core.specs.Bytes.{class_of, is_digit, is_variable_part, Pass}
 use Rattle.hy_core.specs.Marks.{Marked, IsSound}
 use Rattle.hy_core.specs.declared.token.ByteClass.TheVariants as c
-use Rattle.hy_core.specs.declared.token.Word.{Word}
-use Rattle.hy_core.specs.declared.token.Word.TheVariants as w
+use Rattle.hy_core.specs.declared.token.Symbol.{Symbol}
+use Rattle.hy_core.specs.declared.token.Symbol.TheVariants as w
 use Rattle.hy_core.specs.declared.token.Sign.{Sign}
 use Rattle.hy_core.specs.declared.token.Sign.TheVariants as g
 use Rattle.hy_core.specs.declared.token.Token.{Token}
 use Rattle.hy_core.specs.declared.token.Token.TheVariants as t
 
-abbrev pub word_text : Word → List ℕ
-word_text w.After = codes "after"
-word_text w.Apply = codes "apply"
-word_text w.Attributes = codes "attributes"
-word_text w.Call = codes "call"
-word_text w.Case = codes "case"
-word_text w.Catch = codes "catch"
-word_text w.Do = codes "do"
-word_text w.End = codes "end"
-word_text w.Fun = codes "fun"
-word_text w.In = codes "in"
-word_text w.Let = codes "let"
-word_text w.Letrec = codes "letrec"
-word_text w.Module = codes "module"
-word_text w.Of = codes "of"
-word_text w.Primop = codes "primop"
-word_text w.Receive = codes "receive"
-word_text w.Try = codes "try"
-word_text w.When = codes "when"
-word_text w.Open = codes "("
-word_text w.Close = codes ")"
-word_text w.OpenTuple = codes "{"
-word_text w.CloseTuple = codes "}"
-word_text w.OpenList = codes "["
-word_text w.CloseList = codes "]"
-word_text w.Less = codes "<"
-word_text w.Greater = codes ">"
-word_text w.Comma = codes ","
-word_text w.Colon = codes ":"
-word_text w.Slash = codes "/"
-word_text w.Equals = codes "="
-word_text w.Bar = codes "|"
-word_text w.Arrow = codes "->"
-word_text w.NoteBar = codes "-|"
+abbrev pub symbol_text : Symbol → List ℕ
+symbol_text w.After = codes "after"
+symbol_text w.Apply = codes "apply"
+symbol_text w.Attributes = codes "attributes"
+symbol_text w.Call = codes "call"
+symbol_text w.Case = codes "case"
+symbol_text w.Catch = codes "catch"
+symbol_text w.Do = codes "do"
+symbol_text w.End = codes "end"
+symbol_text w.Fun = codes "fun"
+symbol_text w.In = codes "in"
+symbol_text w.Let = codes "let"
+symbol_text w.Letrec = codes "letrec"
+symbol_text w.Module = codes "module"
+symbol_text w.Of = codes "of"
+symbol_text w.Primop = codes "primop"
+symbol_text w.Receive = codes "receive"
+symbol_text w.Try = codes "try"
+symbol_text w.When = codes "when"
+symbol_text w.Open = codes "("
+symbol_text w.Close = codes ")"
+symbol_text w.OpenTuple = codes "{"
+symbol_text w.CloseTuple = codes "}"
+symbol_text w.OpenList = codes "["
+symbol_text w.CloseList = codes "]"
+symbol_text w.Less = codes "<"
+symbol_text w.Greater = codes ">"
+symbol_text w.Comma = codes ","
+symbol_text w.Colon = codes ":"
+symbol_text w.Slash = codes "/"
+symbol_text w.Equals = codes "="
+symbol_text w.Bar = codes "|"
+symbol_text w.Arrow = codes "->"
+symbol_text w.NoteBar = codes "-|"
 
 abbrev pub sign_text : Sign → List ℕ
 sign_text g.Absent = []
@@ -59,7 +59,7 @@ token_text (t.Character code) = 36 ∷ 92 ∷ octal_digits code
 token_text (t.Atom text) = atom_text text
 token_text (t.Str text) = quoted 34 text
 token_text (t.Variable name) = name
-token_text (t.Word word) = word_text word
+token_text (t.Symbol symbol) = symbol_text symbol
 
 -- tokens, each with the space before it
 abbrev pub spaced : List Marked → List ℕ
@@ -84,7 +84,7 @@ IsWritten (t.Character code) = code ≤ 255
 IsWritten (t.Atom text) = AreBytes text
 IsWritten (t.Str text) = AreBytes text
 IsWritten (t.Variable name) = IsVariableName name
-IsWritten (t.Word word) = Unit {0}
+IsWritten (t.Symbol symbol) = Unit {0}
 
 -- a token that a text can have, within the levels and its range
 abbrev pub IsFine : Marked → Type 0

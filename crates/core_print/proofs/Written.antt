@@ -2,7 +2,7 @@
 use Rattle.std.proofs.Common.{◌≡◌, ℕ, ◌≤◌, true, List, Some, arith}
 use Rattle.std.proofs.lemmas.Bool.Decides.{nat_tests}
 use Rattle.hy_core.specs.Bytes.{is_printable, is_octal}
-use Rattle.hy_core.specs.Tokens.{escaped, IsEscape, letter, control, one_digit, two_digits, three_digits, IsBody, close, plain, IsToken, integer, signed, character, escape, atom, string, variable, word, mark, mark_of_two}
+use Rattle.hy_core.specs.Tokens.{escaped, IsEscape, letter, control, one_digit, two_digits, three_digits, IsBody, close, plain, IsToken, integer, signed, character, escape, atom, string, variable, a_keyword, mark, mark_of_two}
 use Rattle.core_print.proofs.Spelling.{digits, variable_name, AreBytes, IsWritten}
 use Rattle.hy_core.specs.declared.token.ByteClass.{ByteClass}
 use Rattle.hy_core.specs.declared.token.ByteClass.TheVariants as c
@@ -43,6 +43,6 @@ token_written _ rest _ (escape {k = k} {es = es} is back code) = escape_byte es 
 token_written _ _ _ (atom {bs = bs} {x = x} is body) = body_bytes c.Quote bs x body
 token_written _ _ _ (string {bs = bs} {x = x} is body) = body_bytes c.DoubleQuote bs x body
 token_written _ _ _ (variable is ps st) = variable_name is ps
-token_written _ _ _ (word is ps st key) = tt
+token_written _ _ _ (a_keyword is ps st key) = tt
 token_written _ _ _ (mark is) = tt
 token_written _ _ _ (mark_of_two is behind) = tt

@@ -105,7 +105,8 @@ pub fn push_expr(out: &mut Vec<u8>, names: &Module, expr: &Expr) -> Result<(), M
 // Appends an expression behind these words.
 #[cycle(print)]
 fn push_after(out: &mut Vec<u8>, names: &Module, words: &[u8], expr: &Expr) -> Result<(), Memory>
-    ensures { OnOk result (out.new.items ≡ out.old.items ++ words.now ++ expr_text names.now expr.now) }
+    ensures { OnOk result (out.new.items ≡ out.old.items ++ words.now
+        ++ expr_text names.now expr.now) }
 {
     put(out, words)?;
     push_expr(out, names, expr)
@@ -114,7 +115,8 @@ fn push_after(out: &mut Vec<u8>, names: &Module, words: &[u8], expr: &Expr) -> R
 // Appends expressions with commas between them.
 #[cycle(print)]
 fn push_exprs(out: &mut Vec<u8>, names: &Module, exprs: &[Expr]) -> Result<(), Memory>
-    ensures { OnOk result (out.new.items ≡ out.old.items ++ with_commas (texts_of (map (expr_part names.now) exprs.now))) }
+    ensures { OnOk result (out.new.items ≡ out.old.items
+        ++ with_commas (texts_of (map (expr_part names.now) exprs.now))) }
 {
     if let [first, rest @ ..] = exprs {
         push_expr(out, names, first)?;
@@ -135,7 +137,8 @@ fn push_between(
     exprs: &[Expr],
     closing: &[u8],
 ) -> Result<(), Memory>
-    ensures { OnOk result (out.new.items ≡ out.old.items ++ opening.now ++ with_commas (texts_of (map (expr_part names.now) exprs.now)) ++ closing.now) }
+    ensures { OnOk result (out.new.items ≡ out.old.items ++ opening.now
+        ++ with_commas (texts_of (map (expr_part names.now) exprs.now)) ++ closing.now) }
 {
     put(out, opening)?;
     push_exprs(out, names, exprs)?;
@@ -145,7 +148,8 @@ fn push_between(
 // Appends the end of a list notation: its tail, unless that is nil.
 #[cycle(print)]
 fn push_list_end(out: &mut Vec<u8>, names: &Module, tail: &Expr) -> Result<(), Memory>
-    ensures { OnOk result (out.new.items ≡ out.old.items ++ list_end (expr_part names.now tail.now)) }
+    ensures { OnOk result (out.new.items ≡ out.old.items
+        ++ list_end (expr_part names.now tail.now)) }
 {
     if is_nil(tail) {
         put(out, b" ]")
@@ -157,7 +161,8 @@ fn push_list_end(out: &mut Vec<u8>, names: &Module, tail: &Expr) -> Result<(), M
 // Appends a tail that isn't nil.
 #[cycle(print)]
 fn push_tail(out: &mut Vec<u8>, names: &Module, tail: &Expr) -> Result<(), Memory>
-    ensures { OnOk result (out.new.items ≡ out.old.items ++ (codes " |" ++ expr_text names.now tail.now ++ codes " ]")) }
+    ensures { OnOk result (out.new.items ≡ out.old.items
+        ++ (codes " |" ++ expr_text names.now tail.now ++ codes " ]")) }
 {
     put(out, b" |")?;
     push_expr(out, names, tail)?;
@@ -173,7 +178,8 @@ fn push_arm(
     vars: &[u32],
     body: &Expr,
 ) -> Result<(), Memory>
-    ensures { OnOk result (out.new.items ≡ out.old.items ++ words.now ++ arm_text names.now vars.now (expr_text names.now body.now)) }
+    ensures { OnOk result (out.new.items ≡ out.old.items ++ words.now
+        ++ arm_text names.now vars.now (expr_text names.now body.now)) }
 {
     put(out, words)?;
     push_binding(out, names, vars)?;
@@ -183,7 +189,8 @@ fn push_arm(
 
 #[cycle(print)]
 fn push_fun(out: &mut Vec<u8>, names: &Module, params: &[u32], body: &Expr) -> Result<(), Memory>
-    ensures { OnOk result (out.new.items ≡ out.old.items ++ fun_text names.now params.now (expr_text names.now body.now)) }
+    ensures { OnOk result (out.new.items ≡ out.old.items ++ fun_text names.now params.now
+        (expr_text names.now body.now)) }
 {
     put(out, b" fun (")?;
     push_variables(out, names, params)?;
@@ -199,7 +206,8 @@ fn push_clauses(
     words: &[u8],
     clauses: &[Clause],
 ) -> Result<(), Memory>
-    ensures { OnOk result (out.new.items ≡ out.old.items ++ words.now ++ one_after_another (map (clause_text names.now) clauses.now)) }
+    ensures { OnOk result (out.new.items ≡ out.old.items ++ words.now
+        ++ one_after_another (map (clause_text names.now) clauses.now)) }
 {
     put(out, words)?;
     for clause in clauses {
@@ -227,7 +235,8 @@ pub fn push_functions(
     names: &Module,
     functions: &[Function],
 ) -> Result<(), Memory>
-    ensures { OnOk result (out.new.items ≡ out.old.items ++ one_after_another (map (function_text names.now) functions.now)) }
+    ensures { OnOk result (out.new.items ≡ out.old.items ++ one_after_another
+        (map (function_text names.now) functions.now)) }
 {
     for function in functions {
         push_function(out, names, function)?;

@@ -10,13 +10,18 @@ use hy_core::Module;
 use hy_terms::Memory;
 use std::alloc::Global;
 
-/// The canonical text of a module: its tokens in the order of the grammar, joined by single spaces, then a line feed.
+/// The canonical text of a module: its tokens in the order of the grammar, joined by single spaces,
+/// then a line feed.
 ///
-/// It has no annotations and no attributes. Lists of variables and of patterns stand between `<` and `>`, a list whose tail is nil has no bar, and characters are integers. A number that isn't in the module's table of atoms or variables has the empty text there.
+/// It has no annotations and no attributes. Lists of variables and of patterns stand between `<`
+/// and `>`, a list whose tail is nil has no bar, and characters are integers. A number that isn't
+/// in the module's table of atoms or variables has the empty text there.
 pub fn print_module(alloc: Global, module: &Module) -> Result<Vec<u8>, Memory>
     ensures canonical { IfOk result (λ text. text.items ≡ canonical_text «module».now) }
     // What was read is read again: the grammar gives the text the same tree, site numbers aside.
-    ensures reads_back { IfOk result (λ text. (source : List ℕ) → IsModuleText source (unsited «module».now) → HasTree text.items (unsited «module».now)) }
+    ensures reads_back { IfOk result (λ text. (source : List ℕ)
+        → IsModuleText source (unsited «module».now)
+        → HasTree text.items (unsited «module».now)) }
 {
     let mut out = Vec::new(alloc);
     push_head(&mut out, module)?;
@@ -27,7 +32,10 @@ pub fn print_module(alloc: Global, module: &Module) -> Result<Vec<u8>, Memory>
 
 // Appends what stands before the definitions.
 fn push_head(out: &mut Vec<u8>, names: &Module) -> Result<(), Memory>
-    ensures { OnOk result (out.new.items ≡ out.old.items ++ codes "module" ++ atom_token names.now names.now.name ++ codes " [" ++ with_commas (map (name_text names.now) names.now.exports) ++ codes " ] attributes [ ]") }
+    ensures { OnOk result (out.new.items ≡ out.old.items ++ codes "module"
+        ++ atom_token names.now names.now.name ++ codes " ["
+        ++ with_commas (map (name_text names.now) names.now.exports)
+        ++ codes " ] attributes [ ]") }
 {
     put(out, b"module")?;
     push_atom_token(out, names, names.name)?;

@@ -7,7 +7,8 @@ use hy_terms::Memory;
 
 /// Appends variables with commas between them.
 pub fn push_variables(out: &mut Vec<u8>, names: &Module, variables: &[u32]) -> Result<(), Memory>
-    ensures { OnOk result (out.new.items ≡ out.old.items ++ variables_text names.now variables.now) }
+    ensures { OnOk result (out.new.items ≡ out.old.items
+        ++ variables_text names.now variables.now) }
 {
     if let [first, rest @ ..] = variables {
         push_variable(out, names, *first)?;
@@ -30,7 +31,8 @@ pub fn push_binding(out: &mut Vec<u8>, names: &Module, variables: &[u32]) -> Res
 
 /// Appends names of functions with commas between them.
 pub fn push_names(out: &mut Vec<u8>, names: &Module, functions: &[FunName]) -> Result<(), Memory>
-    ensures { OnOk result (out.new.items ≡ out.old.items ++ with_commas (map (name_text names.now) functions.now)) }
+    ensures { OnOk result (out.new.items ≡ out.old.items
+        ++ with_commas (map (name_text names.now) functions.now)) }
 {
     if let [first, rest @ ..] = functions {
         push_name(out, names, *first)?;

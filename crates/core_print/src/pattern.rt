@@ -44,7 +44,8 @@ pub fn push_pattern(out: &mut Vec<u8>, names: &Module, pattern: &Pattern) -> Res
 /// Appends patterns with commas between them.
 #[cycle(print_pattern)]
 pub fn push_patterns(out: &mut Vec<u8>, names: &Module, patterns: &[Pattern]) -> Result<(), Memory>
-    ensures { OnOk result (out.new.items ≡ out.old.items ++ with_commas (texts_of (map (pattern_part names.now) patterns.now))) }
+    ensures { OnOk result (out.new.items ≡ out.old.items
+        ++ with_commas (texts_of (map (pattern_part names.now) patterns.now))) }
 {
     if let [first, rest @ ..] = patterns {
         push_pattern(out, names, first)?;
@@ -59,7 +60,8 @@ pub fn push_patterns(out: &mut Vec<u8>, names: &Module, patterns: &[Pattern]) ->
 // Appends the end of a list notation: its tail, unless that is nil.
 #[cycle(print_pattern)]
 fn push_list_end(out: &mut Vec<u8>, names: &Module, tail: &Pattern) -> Result<(), Memory>
-    ensures { OnOk result (out.new.items ≡ out.old.items ++ list_end (pattern_part names.now tail.now)) }
+    ensures { OnOk result (out.new.items ≡ out.old.items
+        ++ list_end (pattern_part names.now tail.now)) }
 {
     if is_nil(tail) {
         put(out, b" ]")
@@ -71,7 +73,8 @@ fn push_list_end(out: &mut Vec<u8>, names: &Module, tail: &Pattern) -> Result<()
 // Appends a tail that isn't nil.
 #[cycle(print_pattern)]
 fn push_tail(out: &mut Vec<u8>, names: &Module, tail: &Pattern) -> Result<(), Memory>
-    ensures { OnOk result (out.new.items ≡ out.old.items ++ (codes " |" ++ pattern_text names.now tail.now ++ codes " ]")) }
+    ensures { OnOk result (out.new.items ≡ out.old.items
+        ++ (codes " |" ++ pattern_text names.now tail.now ++ codes " ]")) }
 {
     put(out, b" |")?;
     push_pattern(out, names, tail)?;

@@ -4,7 +4,7 @@ ghost use Rattle.hy_terms.specs.Texts.{int_text, atom_text, quoted};
 ghost use Rattle.hy_core.specs.Canonical.{token, variable_text, atom_token, name_text};
 
 use hy_core::{FunName, Module};
-use hy_terms::{Atoms, Memory, push_atom, push_int, push_quoted};
+use hy_terms::{Memory, push_atom, push_int, push_quoted};
 
 /// Appends these bytes as they are.
 pub fn put(out: &mut Vec<u8>, text: &[u8]) -> Result<(), Memory>
@@ -12,17 +12,6 @@ pub fn put(out: &mut Vec<u8>, text: &[u8]) -> Result<(), Memory>
 {
     out.extend_from_slice(text)?;
     Ok(())
-}
-
-// The text of a number; one that the table hasn't has the empty text.
-fn text_in(table: &Atoms, number: u32) -> &[u8]
-    ensures { result.now ≡ text_of table.now number }
-{
-    if number < table.len() {
-        table.text(number)
-    } else {
-        &[]
-    }
 }
 
 /// Appends a number.
@@ -46,7 +35,7 @@ pub fn push_variable(out: &mut Vec<u8>, names: &Module, variable: u32) -> Result
     ensures { OnOk result (out.new.items ≡ out.old.items ++ variable_text names.now variable) }
 {
     out.push(b' ')?;
-    put(out, text_in(&names.variables, variable))
+    put(out, names.variables.text_of(variable))
 }
 
 /// Appends an atom of this module.
@@ -54,7 +43,7 @@ pub fn push_atom_token(out: &mut Vec<u8>, names: &Module, atom: u32) -> Result<(
     ensures { OnOk result (out.new.items ≡ out.old.items ++ atom_token names.now atom) }
 {
     out.push(b' ')?;
-    push_atom(out, text_in(&names.atoms, atom))
+    push_atom(out, names.atoms.text_of(atom))
 }
 
 /// Appends a function's name.

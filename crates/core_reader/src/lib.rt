@@ -1,30 +1,7 @@
-//! Reads the text of a module, prints its canonical text, and gives the modules that each program has beside those
-//! that are given.
+//! Reads the text of a module, prints its canonical text, and gives the modules that each program
+//! has beside those that are given: one place for what the three crates below do.
 #![tactic(auto)]
 
-ghost use Rattle.std.specs.Prelude.{◌≡◌, IfOk};
-ghost use Rattle.hy_core.specs.PreludeModules.{prelude_modules};
-
-mod build;
-mod erlang;
-mod lists;
-#[cfg(test)]
-mod prelude_tests;
-#[cfg(test)]
-mod tests;
-
-use crate::erlang::module_erlang;
-use crate::lists::module_lists;
 pub use core_parse::{ReadAnswer, Refused, read_module};
+pub use core_prelude::prelude;
 pub use core_print::print_module;
-use hy_core::Module;
-use hy_terms::Memory;
-use std::alloc::Global;
-
-/// The modules that each program has beside those that are given: `'erlang'` with `'++'/2`, then `'lists'` with
-/// `'reverse'/1`, `'reverse'/2` and `'append'/2`.
-pub fn prelude(alloc: Global) -> Result<Vec<Module>, Memory>
-    ensures { IfOk result (λ modules. modules.items ≡ prelude_modules) }
-{
-    Ok(vec![in alloc; module_erlang(alloc)?, module_lists(alloc)?]?)
-}

@@ -5,7 +5,7 @@ use Rattle.std.proofs.lemmas.Bool.{eqb-true, leb-true}
 use Rattle.std.proofs.lemmas.Bool.Decides.{nat_tests}
 use Rattle.hy_core.specs.Bytes.{class_of, mark_of, plain_class, is_octal}
 use Rattle.hy_core.specs.Tokens.{escaped, EndsOctal, IsEscape, letter, control, one_digit, two_digits, three_digits, IsBody, close, plain, escape as escape_in, IsToken, atom, string}
-use Rattle.core_scan.specs.Scan.{quoted_token, longer, by_letter, with_second, with_third, escaping}
+use Rattle.core_scan.specs.code.Scan.{quoted_token, longer, by_letter, with_second, with_third, escaping}
 use Rattle.core_scan.proofs.Found.{escape_before, longer_is, octal_bounds, quote_class, two_small}
 use Rattle.core_scan.proofs.Unfinished.{IsBegun, IsFront, byte, caret, empty, nothing, one, two, whole}
 use Rattle.hy_core.specs.declared.token.ByteClass.TheVariants as c

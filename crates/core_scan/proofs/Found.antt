@@ -4,9 +4,9 @@ use Rattle.std.proofs.lemmas.List.{append-nil}
 use Rattle.std.proofs.lemmas.Bool.{eqb-true, le-leb}
 use Rattle.std.proofs.lemmas.Bool.Decides.{nat_tests}
 use Rattle.hy_core.specs.Bytes.{class_of, is_printable, is_octal, is_digit, is_lower, is_variable_part, Pass, Stops}
-use Rattle.hy_core.specs.Tokens.{keyword, sign_of, mark_behind_minus, escaped, EndsOctal, IsEscape, letter, control, one_digit, two_digits, three_digits, IsBody, close, plain, escape as escape_in, IsToken, integer, signed, character, escape, atom, string, variable, word, mark, mark_of_two}
-use Rattle.core_scan.specs.Scan.{lexeme, quoted_token, longer, after_backslash, escaping, escape_ended, begun, after_sign, closes, inside, in_quotes, in_character, stepped, scan}
-use Rattle.hy_core.specs.declared.token.Word.{Word}
+use Rattle.hy_core.specs.Tokens.{keyword, sign_of, mark_behind_minus, escaped, EndsOctal, IsEscape, letter, control, one_digit, two_digits, three_digits, IsBody, close, plain, escape as escape_in, IsToken, integer, signed, character, escape, atom, string, variable, a_keyword, mark, mark_of_two}
+use Rattle.core_scan.specs.code.Scan.{lexeme, quoted_token, longer, after_backslash, escaping, escape_ended, begun, after_sign, closes, inside, in_quotes, in_character, stepped, scan}
+use Rattle.hy_core.specs.declared.token.Symbol.{Symbol}
 use Rattle.hy_core.specs.declared.token.ByteClass.{ByteClass}
 use Rattle.hy_core.specs.declared.token.ByteClass.TheVariants as c
 use Rattle.hy_core.specs.declared.token.Sign.{Sign}
@@ -50,7 +50,7 @@ run_variable [] [] xs m p st = rw (append-nil xs) refl
 run_variable [] (b ∷ bs) xs m p st = rw (append-nil xs, st) refl
 run_variable (d ∷ us) rest xs m p st = rw (p.0) (run_variable us rest (xs ++ d ∷ []) m p.1 st ∙ ap (λ (u : List ℕ). before m (t.Variable u) (scan rest s.Gap)) (append_assoc xs (d ∷ []) us))
 
-run_word : (ls rest xs : List ℕ) (m : ℕ) (k : Word) → Pass is_lower ls → Stops is_lower rest → keyword (xs ++ ls) ≡ Some k → scan (ls ++ rest) (s.Word m xs) ≡ before m (t.Word k) (scan rest s.Gap)
+run_word : (ls rest xs : List ℕ) (m : ℕ) (k : Symbol) → Pass is_lower ls → Stops is_lower rest → keyword (xs ++ ls) ≡ Some k → scan (ls ++ rest) (s.Keyword m xs) ≡ before m (t.Symbol k) (scan rest s.Gap)
 unfolding scan
 run_word [] [] xs m k p st is = let here : keyword xs ≡ Some k = ap keyword (sym (append-nil xs)) ∙ is in rw here refl
 run_word [] (b ∷ bs) xs m k p st is = let here : keyword xs ≡ Some k = ap keyword (sym (append-nil xs)) ∙ is in rw (st, here) refl
@@ -224,7 +224,7 @@ character_plain : (m b : ℕ) (k : ByteClass) → is_printable b ≡ true → (k
 character_plain m b c.Backslash p not = absurd (not refl)
 character_plain m b _ p not = rw p refl
 
-minus_marked : (m b : ℕ) (k : ByteClass) (mark_is : Word) → mark_behind_minus k ≡ Some mark_is → after_sign m g.Minus b k ≡ (s.Gap, lexeme m (t.Word mark_is) ∷ [])
+minus_marked : (m b : ℕ) (k : ByteClass) (mark_is : Symbol) → mark_behind_minus k ≡ Some mark_is → after_sign m g.Minus b k ≡ (s.Gap, lexeme m (t.Symbol mark_is) ∷ [])
 minus_marked m b (c.Mark k) mark_is is = rw is refl
 minus_marked m b _ mark_is is = absurd cc
 
@@ -239,6 +239,6 @@ scan_token _ rest _ (escape {q = a} {b = b} {k = k} {es = es} kd is es_is) = rw 
 scan_token _ rest _ (atom {q = a} {bs = bs} {x = text} k d) = rw k (run_quoted c.Quote bs text rest [] (suc (length (bs ++ rest))) q.Single refl d)
 scan_token _ rest _ (string {q = a} {bs = bs} {x = text} k d) = rw k (run_quoted c.DoubleQuote bs text rest [] (suc (length (bs ++ rest))) q.Double refl d)
 scan_token _ rest _ (variable {u = u} {us = us} k p st) = rw k (run_variable us rest (u ∷ []) (suc (length (us ++ rest))) p st)
-scan_token _ rest _ (word {l = l} {ls = ls} {k = j} k p st is) = rw k (run_word ls rest (l ∷ []) (suc (length (ls ++ rest))) j p st is)
+scan_token _ rest _ (a_keyword {l = l} {ls = ls} {k = j} k p st is) = rw k (run_word ls rest (l ∷ []) (suc (length (ls ++ rest))) j p st is)
 scan_token _ rest _ (mark k) = rw k refl
 scan_token _ rest _ (mark_of_two {b = b} {m = a} {k = j} is k) = rw (is, minus_marked (suc (suc (length rest))) a (class_of a) j k) refl

@@ -2,8 +2,8 @@
 use Rattle.std.proofs.Common.{◌≡◌, ℕ, suc, ◌≤◌, Bool, true, false, ◌==◌, List, [], ◌∷◌, ◌++◌, length, refl, sym, ap, subst, ◌∙◌, length-append, arith}
 use Rattle.std.proofs.lemmas.Bool.{eqb-true}
 use Rattle.hy_core.specs.Bytes.{class_of}
-use Rattle.hy_core.specs.Tokens.{IsToken, integer, signed, character, escape, atom, string, variable, word, mark, mark_of_two, IsOpen, HasNoToken, IsRemark, EndsLine, Lexes, done, space, comment, token, open_token, no_token, AreWithin, EndsWithin}
-use Rattle.core_scan.specs.Scan.{scan}
+use Rattle.hy_core.specs.Tokens.{IsToken, integer, signed, character, escape, atom, string, variable, a_keyword, mark, mark_of_two, IsOpen, HasNoToken, IsRemark, EndsLine, Lexes, done, space, comment, token, open_token, no_token, AreWithin, EndsWithin}
+use Rattle.core_scan.specs.code.Scan.{scan}
 use Rattle.core_scan.proofs.Found.{Scanned, before, scan_token}
 use Rattle.core_scan.proofs.Unfinished.{BeginsQuoted, not_open}
 use Rattle.core_scan.proofs.Stepped.{line_feed_class}
@@ -80,7 +80,7 @@ token_some _ rest _ (escape {es = es} k is d) = omega (arith, length-append es r
 token_some _ rest _ (atom {bs = bs} k d) = omega (arith, length-append bs rest)
 token_some _ rest _ (string {bs = bs} k d) = omega (arith, length-append bs rest)
 token_some _ rest _ (variable {us = us} k p st) = omega (arith, length-append us rest)
-token_some _ rest _ (word {ls = ls} k p st is) = omega (arith, length-append ls rest)
+token_some _ rest _ (a_keyword {ls = ls} k p st is) = omega (arith, length-append ls rest)
 token_some _ rest _ (mark k) = omega arith
 token_some _ rest _ (mark_of_two is k) = omega arith
 

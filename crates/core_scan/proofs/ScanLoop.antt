@@ -3,7 +3,7 @@ use Rattle.std.proofs.Common.{◌≡◌, ℕ, suc, ◌+◌, ◌-◌, ◌<◌, Li
 use Rattle.std.proofs.Math.Seq.{drop-cons, drop-length}
 use Rattle.std.proofs.lemmas.List.{length-drop}
 use Rattle.hy_core.specs.Tokens.{Lexes}
-use Rattle.core_scan.specs.Scan.{stepped, ended, scan, Steps, EndsAs}
+use Rattle.core_scan.specs.code.Scan.{stepped, ended, scan, Steps, EndsAs}
 use Rattle.core_scan.proofs.Scanned.{scan_lexes}
 use Rattle.hy_core.specs.declared.token.Lexeme.{Lexeme}
 use Rattle.hy_core.specs.declared.token.Ending.{Ending}

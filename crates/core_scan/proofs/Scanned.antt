@@ -2,13 +2,13 @@
 use Rattle.std.proofs.Common.{◌≡◌, ℕ, ◌+◌, ◌-◌, ◌*◌, true, List, [], ◌∷◌, ◌++◌, length, Option, Some, None, refl, sym, ap, subst, ◌∙◌, append_assoc, arith}
 use Rattle.std.proofs.lemmas.List.{append-nil}
 use Rattle.hy_core.specs.Bytes.{class_of, mark_of, plain_class, is_printable, is_lower, Pass}
-use Rattle.hy_core.specs.Tokens.{keyword, escaped, letter, control, one_digit, two_digits, IsBody, IsToken, integer, signed, character, escape, variable, word, is_quoted, IsOpen, Lexes, done, comment, open_token}
-use Rattle.core_scan.specs.Scan.{lexeme, quoted_token, stepped, worded_last, escape_ended, ended, scan}
+use Rattle.hy_core.specs.Tokens.{keyword, escaped, letter, control, one_digit, two_digits, IsBody, IsToken, integer, signed, character, escape, variable, a_keyword, is_quoted, IsOpen, Lexes, done, comment, open_token}
+use Rattle.core_scan.specs.code.Scan.{lexeme, quoted_token, stepped, worded_last, escape_ended, ended, scan}
 use Rattle.core_scan.proofs.Found.{quote_class}
-use Rattle.core_scan.proofs.Unfinished.{BeginsQuoted, Fine, IsBegun, IsFront, Reaches, caret, in_body, in_body_escape, in_comment, in_digits, in_dollar, in_dollar_escape, in_failure, in_gap, in_sign, in_signed, in_variable, in_word, none_found, not_open, nothing, one, placed, two}
+use Rattle.core_scan.proofs.Unfinished.{BeginsQuoted, Fine, IsBegun, IsFront, Reaches, caret, in_body, in_body_escape, in_comment, in_digits, in_dollar, in_dollar_escape, in_failure, in_gap, in_sign, in_signed, in_variable, in_keyword, none_found, not_open, nothing, one, placed, two}
 use Rattle.core_scan.proofs.Escapes.{escape_finishes, front_body, front_escape, quote_no_octal, quoted_is}
 use Rattle.core_scan.proofs.Stepped.{bad_at, sign_bare, step_owes, token_at}
-use Rattle.hy_core.specs.declared.token.Word.{Word}
+use Rattle.hy_core.specs.declared.token.Symbol.{Symbol}
 use Rattle.hy_core.specs.declared.token.ByteClass.TheVariants as c
 use Rattle.hy_core.specs.declared.token.Sign.TheVariants as g
 use Rattle.hy_core.specs.declared.token.Token.{Token}
@@ -78,9 +78,9 @@ last_at m front k is d =
     let whole = append-nil front in
     subst (λ (u : List ℕ). Lexes u (lexeme m k ∷ []) e.Clean) whole (token_at m front [] k [] e.Clean (is ∙ ap length (sym whole)) d done)
 
-word_ends : (m l : ℕ) (ls : List ℕ) (o : Option Word) → keyword (l ∷ ls) ≡ o → m ≡ length (l ∷ ls) → class_of l ≡ c.Lower → Pass is_lower ls → Reaches (l ∷ ls) (s.Word m (l ∷ ls)) → Lexes (l ∷ ls) (worded_last m o).0 (worded_last m o).1
-word_ends m l ls None key is kl ps reach = bad_end m l ls (s.Word m (l ∷ ls)) is reach (λ n. rw key refl) (λ h. cc (kl, h)) (λ h. cc (kl, h)) (λ h. subst BeginsQuoted kl h)
-word_ends m l ls (Some k) key is kl ps reach = last_at m (l ∷ ls) (t.Word k) is (word kl ps tt key)
+word_ends : (m l : ℕ) (ls : List ℕ) (o : Option Symbol) → keyword (l ∷ ls) ≡ o → m ≡ length (l ∷ ls) → class_of l ≡ c.Lower → Pass is_lower ls → Reaches (l ∷ ls) (s.Keyword m (l ∷ ls)) → Lexes (l ∷ ls) (worded_last m o).0 (worded_last m o).1
+word_ends m l ls None key is kl ps reach = bad_end m l ls (s.Keyword m (l ∷ ls)) is reach (λ n. rw key refl) (λ h. cc (kl, h)) (λ h. cc (kl, h)) (λ h. subst BeginsQuoted kl h)
+word_ends m l ls (Some k) key is kl ps reach = last_at m (l ∷ ls) (t.Symbol k) is (a_keyword kl ps tt key)
 
 character_ends : (m a e0 : ℕ) (es : List ℕ) (read : Escape) → m ≡ length (a ∷ e0 ∷ es) → class_of a ≡ c.Dollar → class_of e0 ≡ c.Backslash → IsBegun read es → Reaches (a ∷ e0 ∷ es) (s.CharacterEscape m read) → Lexes (a ∷ e0 ∷ es) (escape_ended m read).0 (escape_ended m read).1
 character_ends m a e0 _ _ is ka kb nothing reach = open_at a (e0 ∷ []) (s.CharacterEscape m x.Begun) reach (λ n. refl) (dollar_escape_opens a e0 [] x.Begun ka kb nothing refl)
@@ -101,7 +101,7 @@ ended_gives state raw fine reach = subst (λ (u : List ℕ). Lexes u (ended stat
     at _ _ (in_digits {m = m} {d = d} {ds = ds} is kd ps) reach = last_at m (d ∷ ds) (t.Integer g.Absent (d ∷ ds)) (short m (d ∷ ds) is) (integer kd ps tt)
     at _ _ (in_signed {m = m} {b = a} {d = d} {ds = ds} {sign = sign} is ka kd ps) reach = last_at m (a ∷ d ∷ ds) (t.Integer sign (d ∷ ds)) (short m (a ∷ d ∷ ds) is) (signed ka kd ps tt)
     at _ _ (in_variable {m = m} {u = u} {us = us} is ku ps) reach = last_at m (u ∷ us) (t.Variable (u ∷ us)) (short m (u ∷ us) is) (variable ku ps tt)
-    at _ _ (in_word {m = m} {l = l} {ls = ls} is kl ps) reach = word_ends m l ls (keyword (l ∷ ls)) refl (short m (l ∷ ls) is) kl ps reach
+    at _ _ (in_keyword {m = m} {l = l} {ls = ls} is kl ps) reach = word_ends m l ls (keyword (l ∷ ls)) refl (short m (l ∷ ls) is) kl ps reach
     at _ _ (in_body {m = m} {a = a} {raw = raw} {text = text} {quote = quote} is ka front) reach = open_at a raw (s.Quoted m quote text) reach (λ n. refl) (body_opens quote a raw text [] ka front)
     at _ _ (in_body_escape {m = m} {a = a} {b = e0} {raw = raw} {es = es} {text = text} {quote = quote} {read = read} is ka front kb begun_is) reach =
         open_at a (raw ++ e0 ∷ es) (s.QuotedEscape m quote text read) reach (λ n. refl) (body_escape_opens quote a e0 raw es text [] read ka front kb begun_is)

@@ -2,12 +2,12 @@
 use Rattle.std.proofs.Common.{◌≡◌, ℕ, Bool, true, false, cond, ◌==◌, List, [], ◌∷◌, ◌++◌, length, Option, Some, None, refl, sym, ap, subst, ◌∙◌, append_assoc}
 use Rattle.std.proofs.lemmas.Bool.{eqb-true, eqb-false}
 use Rattle.hy_core.specs.Bytes.{class_of, mark_of, plain_class, is_printable, is_digit, is_lower, is_variable_part, Pass}
-use Rattle.hy_core.specs.Tokens.{keyword, sign_of, mark_behind_minus, IsToken, integer, signed, character, escape, variable, word, mark, mark_of_two, IsOpen, HasNoToken, IsRemark, Lexes, space, comment, token, no_token}
-use Rattle.core_scan.specs.Scan.{Step, lexeme, behind, quoted_token, escaping, begun, marked, after_sign, worded, closes, inside, in_quotes, in_quoted_escape, in_character, in_character_escape, stepped, scan}
+use Rattle.hy_core.specs.Tokens.{keyword, sign_of, mark_behind_minus, IsToken, integer, signed, character, escape, variable, a_keyword, mark, mark_of_two, IsOpen, HasNoToken, IsRemark, Lexes, space, comment, token, no_token}
+use Rattle.core_scan.specs.code.Scan.{Step, lexeme, behind, quoted_token, escaping, begun, marked, after_sign, worded, closes, inside, in_quotes, in_quoted_escape, in_character, in_character_escape, stepped, scan}
 use Rattle.core_scan.proofs.Found.{closes_is, closes_own, moves, quote_class}
-use Rattle.core_scan.proofs.Unfinished.{BeginsQuoted, Fine, IsDead, IsFront, Reaches, byte, dead_closed, empty, in_body, in_body_escape, in_comment, in_digits, in_dollar, in_dollar_escape, in_failure, in_gap, in_sign, in_signed, in_variable, in_word, none_found, not_open, nothing, placed}
+use Rattle.core_scan.proofs.Unfinished.{BeginsQuoted, Fine, IsDead, IsFront, Reaches, byte, dead_closed, empty, in_body, in_body_escape, in_comment, in_digits, in_dollar, in_dollar_escape, in_failure, in_gap, in_sign, in_signed, in_variable, in_keyword, none_found, not_open, nothing, placed}
 use Rattle.core_scan.proofs.Escapes.{Says, escape_says, front_append, front_body, front_escape, quote_bare, quoted_is}
-use Rattle.hy_core.specs.declared.token.Word.{Word}
+use Rattle.hy_core.specs.declared.token.Symbol.{Symbol}
 use Rattle.hy_core.specs.declared.token.ByteClass.{ByteClass}
 use Rattle.hy_core.specs.declared.token.ByteClass.TheVariants as c
 use Rattle.hy_core.specs.declared.token.Sign.{Sign}
@@ -104,12 +104,12 @@ begun_owes b bs c.Percent is = begins b bs s.Comment (λ n. rw is refl) (in_comm
 begun_owes b bs c.Digit is = begins b bs (s.Integer (length (b ∷ bs)) g.Absent (b ∷ [])) (λ n. rw is refl) (in_digits refl is tt)
 begun_owes b bs c.Plus is = begins b bs (s.Signed (length (b ∷ bs)) g.Plus) (λ n. rw is refl) (in_sign refl (rw is refl))
 begun_owes b bs c.Minus is = begins b bs (s.Signed (length (b ∷ bs)) g.Minus) (λ n. rw is refl) (in_sign refl (rw is refl))
-begun_owes b bs c.Lower is = begins b bs (s.Word (length (b ∷ bs)) (b ∷ [])) (λ n. rw is refl) (in_word refl is tt)
+begun_owes b bs c.Lower is = begins b bs (s.Keyword (length (b ∷ bs)) (b ∷ [])) (λ n. rw is refl) (in_keyword refl is tt)
 begun_owes b bs c.Capital is = begins b bs (s.Variable (length (b ∷ bs)) (b ∷ [])) (λ n. rw is refl) (in_variable refl is tt)
 begun_owes b bs c.Quote is = begins b bs (s.Quoted (length (b ∷ bs)) q.Single []) (λ n. rw is refl) (in_body refl is empty)
 begun_owes b bs c.DoubleQuote is = begins b bs (s.Quoted (length (b ∷ bs)) q.Double []) (λ n. rw is refl) (in_body refl is empty)
 begun_owes b bs c.Dollar is = begins b bs (s.Character (length (b ∷ bs))) (λ n. rw is refl) (in_dollar refl is)
-begun_owes b bs (c.Mark k) is = completes [] b bs (length (b ∷ bs)) (t.Word k) refl (mark is)
+begun_owes b bs (c.Mark k) is = completes [] b bs (length (b ∷ bs)) (t.Symbol k) refl (mark is)
 begun_owes b bs c.Backslash is = begun_bad b bs c.Backslash is (λ n. refl) (λ h. h) (λ h. cc) (λ h. cc)
 begun_owes b bs c.At is = begun_bad b bs c.At is (λ n. refl) (λ h. h) (λ h. cc) (λ h. cc)
 begun_owes b bs c.Other is = begun_bad b bs c.Other is (λ n. refl) (λ h. h) (λ h. cc) (λ h. cc)
@@ -147,10 +147,10 @@ sign_fails m a b bs sign is kd reach bad =
     let bare = sign_bare (class_of a) sign kd in
     fails a [] b bs m (s.Signed m sign) is bare.0 bare.1 reach (λ n j. bad j)
 
-marked_owes : (m a b : ℕ) (bs : List ℕ) (o : Option Word) → m ≡ length (a ∷ b ∷ bs) → sign_of (class_of a) ≡ Some g.Minus → Reaches (a ∷ []) (s.Signed m g.Minus) → ((n : ℕ) → after_sign n g.Minus b (class_of b) ≡ marked n o) → mark_behind_minus (class_of b) ≡ o
+marked_owes : (m a b : ℕ) (bs : List ℕ) (o : Option Symbol) → m ≡ length (a ∷ b ∷ bs) → sign_of (class_of a) ≡ Some g.Minus → Reaches (a ∷ []) (s.Signed m g.Minus) → ((n : ℕ) → after_sign n g.Minus b (class_of b) ≡ marked n o) → mark_behind_minus (class_of b) ≡ o
     → Owes (a ∷ []) b bs (marked m o)
 marked_owes m a b bs None is kd reach after none = sign_fails m a b bs g.Minus is kd reach after
-marked_owes m a b bs (Some k) is kd reach after found = completes (a ∷ []) b bs m (t.Word k) is (mark_of_two (minus_class (class_of a) kd) found)
+marked_owes m a b bs (Some k) is kd reach after found = completes (a ∷ []) b bs m (t.Symbol k) is (mark_of_two (minus_class (class_of a) kd) found)
 
 sign_owes : (m a b : ℕ) (bs : List ℕ) (sign : Sign) (k : ByteClass) → class_of b ≡ k → m ≡ length (a ∷ b ∷ bs) → sign_of (class_of a) ≡ Some sign → Reaches (a ∷ []) (s.Signed m sign) → Owes (a ∷ []) b bs (after_sign m sign b k)
 sign_owes m a b bs sign c.Digit kb is kd reach = goes_on (a ∷ []) b bs (s.Signed m sign) (s.Integer m sign (b ∷ [])) reach (λ n j. rw kb refl) (in_signed is kd kb tt)
@@ -179,14 +179,14 @@ variable_owes : (m u : ℕ) (us : List ℕ) (b : ℕ) (bs : List ℕ) (v : Bool)
 variable_owes m u us b bs true kb is ku ps reach = goes_on (u ∷ us) b bs (s.Variable m (u ∷ us)) (s.Variable m ((u ∷ us) ++ b ∷ [])) reach (λ n j. rw kb refl) (in_variable (moved_length m (u ∷ us) b bs is) ku (pass_push is_variable_part us b ps kb))
 variable_owes m u us b bs false kb is ku ps reach = completes_before (u ∷ us) b bs m (t.Variable (u ∷ us)) _ is (variable ku ps kb) (begun_owes b bs (class_of b) refl)
 
-worded_owes : (m l : ℕ) (ls : List ℕ) (b : ℕ) (bs : List ℕ) (o : Option Word) → is_lower (class_of b) ≡ false → keyword (l ∷ ls) ≡ o → m ≡ length ((l ∷ ls) ++ b ∷ bs) → class_of l ≡ c.Lower → Pass is_lower ls → Reaches (l ∷ ls) (s.Word m (l ∷ ls))
+worded_owes : (m l : ℕ) (ls : List ℕ) (b : ℕ) (bs : List ℕ) (o : Option Symbol) → is_lower (class_of b) ≡ false → keyword (l ∷ ls) ≡ o → m ≡ length ((l ∷ ls) ++ b ∷ bs) → class_of l ≡ c.Lower → Pass is_lower ls → Reaches (l ∷ ls) (s.Keyword m (l ∷ ls))
     → Owes (l ∷ ls) b bs (worded m o (begun (length (b ∷ bs)) b (class_of b)))
-worded_owes m l ls b bs None kb key is kl ps reach = fails l ls b bs m (s.Word m (l ∷ ls)) is (λ h. cc (kl, h)) (λ h. cc (kl, h)) reach (λ n j. rw (kb, key) refl)
-worded_owes m l ls b bs (Some k) kb key is kl ps reach = completes_before (l ∷ ls) b bs m (t.Word k) _ is (word kl ps kb key) (begun_owes b bs (class_of b) refl)
+worded_owes m l ls b bs None kb key is kl ps reach = fails l ls b bs m (s.Keyword m (l ∷ ls)) is (λ h. cc (kl, h)) (λ h. cc (kl, h)) reach (λ n j. rw (kb, key) refl)
+worded_owes m l ls b bs (Some k) kb key is kl ps reach = completes_before (l ∷ ls) b bs m (t.Symbol k) _ is (a_keyword kl ps kb key) (begun_owes b bs (class_of b) refl)
 
-word_owes : (m l : ℕ) (ls : List ℕ) (b : ℕ) (bs : List ℕ) (v : Bool) → is_lower (class_of b) ≡ v → m ≡ length ((l ∷ ls) ++ b ∷ bs) → class_of l ≡ c.Lower → Pass is_lower ls → Reaches (l ∷ ls) (s.Word m (l ∷ ls))
-    → Owes (l ∷ ls) b bs (cond v (s.Word m ((l ∷ ls) ++ b ∷ []), []) (worded m (keyword (l ∷ ls)) (begun (length (b ∷ bs)) b (class_of b))))
-word_owes m l ls b bs true kb is kl ps reach = goes_on (l ∷ ls) b bs (s.Word m (l ∷ ls)) (s.Word m ((l ∷ ls) ++ b ∷ [])) reach (λ n j. rw kb refl) (in_word (moved_length m (l ∷ ls) b bs is) kl (pass_push is_lower ls b ps kb))
+word_owes : (m l : ℕ) (ls : List ℕ) (b : ℕ) (bs : List ℕ) (v : Bool) → is_lower (class_of b) ≡ v → m ≡ length ((l ∷ ls) ++ b ∷ bs) → class_of l ≡ c.Lower → Pass is_lower ls → Reaches (l ∷ ls) (s.Keyword m (l ∷ ls))
+    → Owes (l ∷ ls) b bs (cond v (s.Keyword m ((l ∷ ls) ++ b ∷ []), []) (worded m (keyword (l ∷ ls)) (begun (length (b ∷ bs)) b (class_of b))))
+word_owes m l ls b bs true kb is kl ps reach = goes_on (l ∷ ls) b bs (s.Keyword m (l ∷ ls)) (s.Keyword m ((l ∷ ls) ++ b ∷ [])) reach (λ n j. rw kb refl) (in_keyword (moved_length m (l ∷ ls) b bs is) kl (pass_push is_lower ls b ps kb))
 word_owes m l ls b bs false kb is kl ps reach = worded_owes m l ls b bs (keyword (l ∷ ls)) kb refl is kl ps reach
 
 -- ---- a byte between quotes
@@ -254,7 +254,7 @@ step_owes _ _ b bs (in_sign {m = m} {b = a} {sign = sign} is kd) reach = sign_ow
 step_owes _ _ b bs (in_digits {m = m} {d = d} {ds = ds} is kd ps) reach = digits_owe m d ds b bs (is_digit (class_of b)) refl is kd ps reach
 step_owes _ _ b bs (in_signed {m = m} {b = a} {d = d} {ds = ds} {sign = sign} is ka kd ps) reach = signed_owes m a d ds b bs sign (is_digit (class_of b)) refl is ka kd ps reach
 step_owes _ _ b bs (in_variable {m = m} {u = u} {us = us} is ku ps) reach = variable_owes m u us b bs (is_variable_part (class_of b)) refl is ku ps reach
-step_owes _ _ b bs (in_word {m = m} {l = l} {ls = ls} is kl ps) reach = word_owes m l ls b bs (is_lower (class_of b)) refl is kl ps reach
+step_owes _ _ b bs (in_keyword {m = m} {l = l} {ls = ls} is kl ps) reach = word_owes m l ls b bs (is_lower (class_of b)) refl is kl ps reach
 step_owes _ _ b bs (in_body {m = m} {a = a} {raw = raw} {text = text} {quote = quote} is ka front) reach =
     quotes_owe m a raw text b bs quote (s.Quoted m quote text) (closes quote (class_of b)) refl is ka front reach (λ n j. refl)
 step_owes _ _ b bs (in_body_escape {m = m} {a = a} {b = e0} {raw = raw} {es = es} {text = text} {quote = quote} {read = read} is ka front kb begun_is) reach =

@@ -2,8 +2,8 @@
 use Rattle.std.proofs.Common.{◌≡◌, ℕ, ◌+◌, ◌-◌, ◌*◌, true, List, [], ◌∷◌, ◌++◌, length, Some, refl, sym, ap, subst, ◌∙◌}
 use Rattle.std.proofs.lemmas.List.{append-nil}
 use Rattle.hy_core.specs.Bytes.{class_of, is_printable, is_octal, is_digit, is_lower, is_variable_part, Pass}
-use Rattle.hy_core.specs.Tokens.{sign_of, IsEscape, IsToken, integer, signed, character, escape, atom, string, variable, word, mark, mark_of_two, is_quoted, IsOpen, HasNoToken, IsRemark, Lexes}
-use Rattle.core_scan.specs.Scan.{scan}
+use Rattle.hy_core.specs.Tokens.{sign_of, IsEscape, IsToken, integer, signed, character, escape, atom, string, variable, a_keyword, mark, mark_of_two, is_quoted, IsOpen, HasNoToken, IsRemark, Lexes}
+use Rattle.core_scan.specs.code.Scan.{scan}
 use Rattle.core_scan.proofs.Found.{before, quote_class, scan_token}
 use Rattle.hy_core.specs.declared.token.ByteClass.{ByteClass}
 use Rattle.hy_core.specs.declared.token.ByteClass.TheVariants as c
@@ -49,7 +49,7 @@ begins_quoted b bs _ rest _ h is (escape {q = a} kd k d) = let same : a ≡ b = 
 begins_quoted b bs _ rest _ h is (atom {q = a} kd d) = let same : a ≡ b = cc in subst BeginsQuoted (sym kd ∙ ap class_of same) tt
 begins_quoted b bs _ rest _ h is (string {q = a} kd d) = let same : a ≡ b = cc in subst BeginsQuoted (sym kd ∙ ap class_of same) tt
 begins_quoted b bs _ rest _ h is (variable k p st) = absurd cc
-begins_quoted b bs _ rest _ h is (word k p st found) = absurd cc
+begins_quoted b bs _ rest _ h is (a_keyword k p st found) = absurd cc
 begins_quoted b bs _ rest _ h is (mark k) = absurd cc
 begins_quoted b bs _ rest _ h is (mark_of_two kd k) = absurd cc
 
@@ -80,7 +80,7 @@ pub data Fine : State → List ℕ → List ℕ → Type 0 where
   in_signed : {m b d : ℕ} {ds bs : List ℕ} {sign : Sign} → m ≡ length ((b ∷ d ∷ ds) ++ bs) → sign_of (class_of b) ≡ Some sign → class_of d ≡ c.Digit → Pass is_digit ds
       → Fine (s.Integer m sign (d ∷ ds)) (b ∷ d ∷ ds) bs
   in_variable : {m u : ℕ} {us bs : List ℕ} → m ≡ length ((u ∷ us) ++ bs) → class_of u ≡ c.Capital → Pass is_variable_part us → Fine (s.Variable m (u ∷ us)) (u ∷ us) bs
-  in_word : {m l : ℕ} {ls bs : List ℕ} → m ≡ length ((l ∷ ls) ++ bs) → class_of l ≡ c.Lower → Pass is_lower ls → Fine (s.Word m (l ∷ ls)) (l ∷ ls) bs
+  in_keyword : {m l : ℕ} {ls bs : List ℕ} → m ≡ length ((l ∷ ls) ++ bs) → class_of l ≡ c.Lower → Pass is_lower ls → Fine (s.Keyword m (l ∷ ls)) (l ∷ ls) bs
   in_body : {m a : ℕ} {raw text bs : List ℕ} {quote : Quote} → m ≡ length ((a ∷ raw) ++ bs) → class_of a ≡ quote_class quote → IsFront quote raw text bs → Fine (s.Quoted m quote text) (a ∷ raw) bs
   in_body_escape : {m a b : ℕ} {raw es text bs : List ℕ} {quote : Quote} {read : Escape} → m ≡ length ((a ∷ (raw ++ b ∷ es)) ++ bs) → class_of a ≡ quote_class quote → IsFront quote raw text (b ∷ (es ++ bs)) → class_of b ≡ c.Backslash → IsBegun read es
       → Fine (s.QuotedEscape m quote text read) (a ∷ (raw ++ b ∷ es)) bs
@@ -95,7 +95,7 @@ placed n s.Comment = s.Comment
 placed n (s.Signed m sign) = s.Signed n sign
 placed n (s.Integer m sign ds) = s.Integer n sign ds
 placed n (s.Variable m text) = s.Variable n text
-placed n (s.Word m ls) = s.Word n ls
+placed n (s.Keyword m ls) = s.Keyword n ls
 placed n (s.Quoted m quote text) = s.Quoted n quote text
 placed n (s.QuotedEscape m quote text read) = s.QuotedEscape n quote text read
 placed n (s.Character m) = s.Character n

@@ -1,29 +1,29 @@
 ghost use Rattle.std.specs.Prelude.{◌≡◌};
 ghost use Rattle.hy_core.specs.Bytes.{mark_of, plain_class, class_of, is_variable_part, is_printable, is_octal};
 ghost use Rattle.hy_core.specs.Tokens.{keyword, mark_behind_minus};
-ghost use Rattle.core_scan.specs.Scan.{closes};
+ghost use Rattle.core_scan.specs.code.Scan.{closes};
 
 use crate::state::Quote;
-use hy_core::{ByteClass, Word};
+use hy_core::{ByteClass, Symbol};
 
 #[tactic(auto, unfolding(hy_core::specs::Bytes::mark_of))]
-fn mark(b: u8) -> Option<Word>
+fn mark(b: u8) -> Option<Symbol>
     ensures { result ≡ mark_of b }
 {
     match b {
-        b'(' => Some(Word::Open),
-        b')' => Some(Word::Close),
-        b'[' => Some(Word::OpenList),
-        b']' => Some(Word::CloseList),
-        b'<' => Some(Word::Less),
-        b'>' => Some(Word::Greater),
-        b',' => Some(Word::Comma),
-        b':' => Some(Word::Colon),
-        b'/' => Some(Word::Slash),
-        b'=' => Some(Word::Equals),
-        b'{' => Some(Word::OpenTuple),
-        b'}' => Some(Word::CloseTuple),
-        b'|' => Some(Word::Bar),
+        b'(' => Some(Symbol::Open),
+        b')' => Some(Symbol::Close),
+        b'[' => Some(Symbol::OpenList),
+        b']' => Some(Symbol::CloseList),
+        b'<' => Some(Symbol::Less),
+        b'>' => Some(Symbol::Greater),
+        b',' => Some(Symbol::Comma),
+        b':' => Some(Symbol::Colon),
+        b'/' => Some(Symbol::Slash),
+        b'=' => Some(Symbol::Equals),
+        b'{' => Some(Symbol::OpenTuple),
+        b'}' => Some(Symbol::CloseTuple),
+        b'|' => Some(Symbol::Bar),
         _ => None,
     }
 }
@@ -54,7 +54,7 @@ pub fn class(b: u8) -> ByteClass
     ensures { result ≡ class_of b }
 {
     match mark(b) {
-        Some(word) => ByteClass::Mark(word),
+        Some(symbol) => ByteClass::Mark(symbol),
         None => class_of_plain(b),
     }
 }
@@ -93,50 +93,50 @@ pub fn ends(quote: Quote, class: ByteClass) -> bool
 }
 
 /// The mark that is `-` and a byte of this class.
-pub fn behind_minus(class: ByteClass) -> Option<Word>
+pub fn behind_minus(class: ByteClass) -> Option<Symbol>
     ensures { result ≡ mark_behind_minus class }
 {
     match class {
-        ByteClass::Mark(Word::Greater) => Some(Word::Arrow),
-        ByteClass::Mark(Word::Bar) => Some(Word::NoteBar),
+        ByteClass::Mark(Symbol::Greater) => Some(Symbol::Arrow),
+        ByteClass::Mark(Symbol::Bar) => Some(Symbol::NoteBar),
         _ => None,
     }
 }
 
 #[tactic(auto, unfolding(hy_core::specs::Tokens::keyword))]
-pub fn word(letters: &[u8]) -> Option<Word>
+pub fn keyword(letters: &[u8]) -> Option<Symbol>
     ensures { result ≡ keyword letters.now }
 {
     // The check gives up at patterns of more than five bytes.
     if letters == b"attributes".as_slice() {
-        return Some(Word::Attributes);
+        return Some(Symbol::Attributes);
     }
     if letters == b"letrec".as_slice() {
-        return Some(Word::Letrec);
+        return Some(Symbol::Letrec);
     }
     if letters == b"module".as_slice() {
-        return Some(Word::Module);
+        return Some(Symbol::Module);
     }
     if letters == b"primop".as_slice() {
-        return Some(Word::Primop);
+        return Some(Symbol::Primop);
     }
     if letters == b"receive".as_slice() {
-        return Some(Word::Receive);
+        return Some(Symbol::Receive);
     }
     match letters {
-        b"after" => Some(Word::After),
-        b"apply" => Some(Word::Apply),
-        b"call" => Some(Word::Call),
-        b"case" => Some(Word::Case),
-        b"catch" => Some(Word::Catch),
-        b"do" => Some(Word::Do),
-        b"end" => Some(Word::End),
-        b"fun" => Some(Word::Fun),
-        b"in" => Some(Word::In),
-        b"let" => Some(Word::Let),
-        b"of" => Some(Word::Of),
-        b"try" => Some(Word::Try),
-        b"when" => Some(Word::When),
+        b"after" => Some(Symbol::After),
+        b"apply" => Some(Symbol::Apply),
+        b"call" => Some(Symbol::Call),
+        b"case" => Some(Symbol::Case),
+        b"catch" => Some(Symbol::Catch),
+        b"do" => Some(Symbol::Do),
+        b"end" => Some(Symbol::End),
+        b"fun" => Some(Symbol::Fun),
+        b"in" => Some(Symbol::In),
+        b"let" => Some(Symbol::Let),
+        b"of" => Some(Symbol::Of),
+        b"try" => Some(Symbol::Try),
+        b"when" => Some(Symbol::When),
         _ => None,
     }
 }

@@ -1,6 +1,6 @@
 ghost use Rattle.std.specs.Prelude.{◌≡◌};
 ghost use Rattle.hy_core.specs.Tokens.{escaped};
-ghost use Rattle.core_scan.specs.Scan.{longer, after_backslash, after_caret, after_digit, after_digits, escaping};
+ghost use Rattle.core_scan.specs.code.Scan.{longer, after_backslash, after_caret, after_digit, after_digits, escaping};
 
 use crate::byte::octal;
 use crate::state::{Escape, Escaping};
@@ -31,7 +31,7 @@ fn begin(b: u8) -> Escaping
     }
 }
 
-/// What `\` and this byte alone stand for.
+// What `\` and this byte alone stand for.
 #[tactic(auto, unfolding(hy_core::specs::Tokens::escaped))]
 fn letter(b: u8) -> Option<u8>
     ensures { result ≡ escaped b }
@@ -85,7 +85,7 @@ fn third_digit(value: u8, b: u8) -> Escaping
     }
 }
 
-/// The value with an octal digit behind it, where it is still a byte.
+// The value with an octal digit behind it, where it is still a byte.
 fn with_digit(value: u8, b: u8) -> Option<u8>
     ensures { result ≡ longer value b }
 {

@@ -5,7 +5,5 @@ mod byte;
 mod escape;
 mod scan;
 mod state;
-#[cfg(test)]
-mod tests;
 
 pub use scan::{Lexed, lex, one_lexing};

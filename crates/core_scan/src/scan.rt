@@ -1,11 +1,11 @@
 ghost use Rattle.std.specs.Prelude.{◌≡◌, ◌≤◌, ℕ, List, [], ◌∷◌, length, IfOk};
 ghost use Rattle.hy_core.specs.Bytes.{class_of, is_digit, is_lower};
 ghost use Rattle.hy_core.specs.Tokens.{Lexes, AreWithin, EndsWithin};
-ghost use Rattle.core_scan.specs.Scan.{quoted_token, begun, inside, stepped, escape_ended, ended, Steps, EndsAs};
+ghost use Rattle.core_scan.specs.code.Scan.{quoted_token, begun, inside, stepped, escape_ended, ended, Steps, EndsAs};
 ghost use Rattle.hy_core.specs.declared.token.Ending.TheVariants.{Clean};
-ghost use Rattle.core_scan.specs.declared.state.State.TheVariants.{Comment, Signed, Integer, Variable, Word as InWord, Quoted, QuotedEscape, Character, CharacterEscape};
+ghost use Rattle.core_scan.specs.declared.state.State.TheVariants.{Comment, Signed, Integer, Variable, Keyword as InKeyword, Quoted, QuotedEscape, Character, CharacterEscape};
 
-use crate::byte::{behind_minus, class, ends, printable, variable_part, word};
+use crate::byte::{behind_minus, class, ends, keyword, printable, variable_part};
 use crate::escape::escape;
 use crate::state::{Escape, Escaping, Quote, State};
 use hy_core::{ByteClass, Ending, Lexeme, Sign, Token};
@@ -27,7 +27,7 @@ fn one(alloc: Global, b: u8) -> Result<Items<u8>, AllocError>
     Ok(bytes)
 }
 
-/// A byte behind a token.
+// A byte behind a token.
 fn begin(alloc: Global, left: usize, b: u8, out: &mut Items<Lexeme>) -> Result<State, AllocError>
     ensures { IfOk result (λ s. Steps out.old out.new s (begun left b (class_of b))) }
 {
@@ -37,15 +37,15 @@ fn begin(alloc: Global, left: usize, b: u8, out: &mut Items<Lexeme>) -> Result<S
         ByteClass::Digit => Ok(State::Integer(left, Sign::Absent, one(alloc, b)?)),
         ByteClass::Plus => Ok(State::Signed(left, Sign::Plus)),
         ByteClass::Minus => Ok(State::Signed(left, Sign::Minus)),
-        ByteClass::Lower => Ok(State::Word(left, one(alloc, b)?)),
+        ByteClass::Lower => Ok(State::Keyword(left, one(alloc, b)?)),
         ByteClass::Capital => Ok(State::Variable(left, one(alloc, b)?)),
         ByteClass::Quote => Ok(State::Quoted(left, Quote::Single, Items::new(alloc))),
         ByteClass::DoubleQuote => Ok(State::Quoted(left, Quote::Double, Items::new(alloc))),
         ByteClass::Dollar => Ok(State::Character(left)),
-        ByteClass::Mark(word) => {
+        ByteClass::Mark(symbol) => {
             out.push(Lexeme {
                 left,
-                token: Token::Word(word),
+                token: Token::Symbol(symbol),
             })?;
             Ok(State::Gap)
         }
@@ -68,7 +68,7 @@ fn step(
         State::Signed(from, sign) => in_signed(alloc, from, sign, b, out),
         State::Integer(from, sign, digits) => in_integer(alloc, left, from, sign, digits, b, out),
         State::Variable(from, text) => in_variable(alloc, left, from, text, b, out),
-        State::Word(from, letters) => in_word(alloc, left, from, letters, b, out),
+        State::Keyword(from, letters) => in_keyword(alloc, left, from, letters, b, out),
         State::Quoted(from, quote, text) => in_quotes(from, quote, text, b, out),
         State::QuotedEscape(from, quote, text, read) => {
             in_quoted_escape(from, quote, text, read, b, out)
@@ -111,7 +111,7 @@ fn in_signed(
         Some(mark) => {
             out.push(Lexeme {
                 left: from,
-                token: Token::Word(mark),
+                token: Token::Symbol(mark),
             })?;
             Ok(State::Gap)
         }
@@ -128,7 +128,8 @@ fn in_integer(
     b: u8,
     out: &mut Items<Lexeme>,
 ) -> Result<State, AllocError>
-    ensures { IfOk result (λ s. Steps out.old out.new s (stepped left (Integer from sign digits) b)) }
+    ensures { IfOk result (λ s. Steps out.old out.new s
+        (stepped left (Integer from sign digits) b)) }
 {
     match class(b) {
         ByteClass::Digit => {
@@ -168,7 +169,7 @@ fn in_variable(
     begin(alloc, left, b, out)
 }
 
-fn in_word(
+fn in_keyword(
     alloc: Global,
     left: usize,
     from: usize,
@@ -176,19 +177,19 @@ fn in_word(
     b: u8,
     out: &mut Items<Lexeme>,
 ) -> Result<State, AllocError>
-    ensures { IfOk result (λ s. Steps out.old out.new s (stepped left (InWord from letters) b)) }
+    ensures { IfOk result (λ s. Steps out.old out.new s (stepped left (InKeyword from letters) b)) }
 {
     match class(b) {
         ByteClass::Lower => {
             let mut letters = letters;
             letters.push(b)?;
-            Ok(State::Word(from, letters))
+            Ok(State::Keyword(from, letters))
         }
-        _ => match word(letters.as_slice()) {
+        _ => match keyword(letters.as_slice()) {
             Some(found) => {
                 out.push(Lexeme {
                     left: from,
-                    token: Token::Word(found),
+                    token: Token::Symbol(found),
                 })?;
                 begin(alloc, left, b, out)
             }
@@ -197,7 +198,7 @@ fn in_word(
     }
 }
 
-/// A byte inside an atom or a string.
+// A byte inside an atom or a string.
 fn in_quotes(
     from: usize,
     quote: Quote,
@@ -226,7 +227,7 @@ fn in_quotes(
     Ok(State::Quoted(from, quote, text))
 }
 
-/// The token between quotes.
+// The token between quotes.
 fn quoted(quote: Quote, text: Items<u8>) -> Token
     ensures { result ≡ quoted_token quote text }
 {
@@ -236,7 +237,8 @@ fn quoted(quote: Quote, text: Items<u8>) -> Token
     }
 }
 
-/// A byte of an escape between quotes. The byte that ends an octal escape is taken again, behind it.
+// A byte of an escape between quotes. The byte that ends an octal escape is taken again, behind
+// it.
 fn in_quoted_escape(
     from: usize,
     quote: Quote,
@@ -245,7 +247,8 @@ fn in_quoted_escape(
     b: u8,
     out: &mut Items<Lexeme>,
 ) -> Result<State, AllocError>
-    ensures { IfOk result (λ s. Steps out.old out.new s (stepped 0 (QuotedEscape from quote text read) b)) }
+    ensures { IfOk result (λ s. Steps out.old out.new s
+        (stepped 0 (QuotedEscape from quote text read) b)) }
 {
     let mut text = text;
     match escape(read, b) {
@@ -262,7 +265,7 @@ fn in_quoted_escape(
     }
 }
 
-/// The byte behind a `$`.
+// The byte behind a `$`.
 fn in_character(from: usize, b: u8, out: &mut Items<Lexeme>) -> Result<State, AllocError>
     ensures { IfOk result (λ s. Steps out.old out.new s (stepped 0 (Character from) b)) }
 {
@@ -279,7 +282,8 @@ fn in_character(from: usize, b: u8, out: &mut Items<Lexeme>) -> Result<State, Al
     Ok(State::Gap)
 }
 
-/// A byte of a character's escape. The byte that ends an octal escape is taken again, behind the token.
+// A byte of a character's escape. The byte that ends an octal escape is taken again, behind the
+// token.
 fn in_character_escape(
     alloc: Global,
     left: usize,
@@ -288,7 +292,8 @@ fn in_character_escape(
     b: u8,
     out: &mut Items<Lexeme>,
 ) -> Result<State, AllocError>
-    ensures { IfOk result (λ s. Steps out.old out.new s (stepped left (CharacterEscape from read) b)) }
+    ensures { IfOk result (λ s. Steps out.old out.new s
+        (stepped left (CharacterEscape from read) b)) }
 {
     match escape(read, b) {
         Escaping::Open(more) => Ok(State::CharacterEscape(from, more)),
@@ -310,7 +315,7 @@ fn in_character_escape(
     }
 }
 
-/// What the end of the text makes of an unfinished token.
+// What the end of the text makes of an unfinished token.
 fn end(state: State, out: &mut Items<Lexeme>) -> Result<Ending, AllocError>
     ensures { IfOk result (λ ending. EndsAs out.old out.new ending (ended state)) }
 {
@@ -319,8 +324,8 @@ fn end(state: State, out: &mut Items<Lexeme>) -> Result<Ending, AllocError>
         State::Signed(from, _) => Ok(Ending::Bad(from)),
         State::Integer(from, sign, digits) => last(from, Token::Integer(sign, digits), out),
         State::Variable(from, text) => last(from, Token::Variable(text), out),
-        State::Word(from, letters) => match word(letters.as_slice()) {
-            Some(found) => last(from, Token::Word(found), out),
+        State::Keyword(from, letters) => match keyword(letters.as_slice()) {
+            Some(found) => last(from, Token::Symbol(found), out),
             None => Ok(Ending::Bad(from)),
         },
         State::Quoted(_, _, _) | State::QuotedEscape(_, _, _, _) | State::Character(_) => {
@@ -331,7 +336,7 @@ fn end(state: State, out: &mut Items<Lexeme>) -> Result<Ending, AllocError>
     }
 }
 
-/// What the end of the text makes of the escape of a character.
+// What the end of the text makes of the escape of a character.
 fn end_of_escape(from: usize, read: Escape, out: &mut Items<Lexeme>) -> Result<Ending, AllocError>
     ensures { IfOk result (λ ending. EndsAs out.old out.new ending (escape_ended from read)) }
 {
@@ -344,7 +349,8 @@ fn end_of_escape(from: usize, read: Escape, out: &mut Items<Lexeme>) -> Result<E
 }
 
 fn last(left: usize, token: Token, out: &mut Items<Lexeme>) -> Result<Ending, AllocError>
-    ensures { IfOk result (λ ending. EndsAs out.old out.new ending (record { left = left; token = token } ∷ [], Clean)) }
+    ensures { IfOk result (λ ending. EndsAs out.old out.new ending
+        (record { left = left; token = token } ∷ [], Clean)) }
 {
     out.push(Lexeme { left, token })?;
     Ok(Ending::Clean)
@@ -355,7 +361,8 @@ pub fn lex(alloc: Global, bytes: &[u8]) -> Result<Lexed, AllocError>
     ensures tokens { IfOk result (λ r. Lexes bytes.now r.lexemes r.ending) }
     ensures few { IfOk result (λ r. length r.lexemes ≤ length bytes.now) }
     // each lexeme, and a bad ending, stands inside the text
-    ensures within { IfOk result (λ r. AreWithin (length bytes.now) r.lexemes × EndsWithin (length bytes.now) r.ending) }
+    ensures within { IfOk result (λ r. AreWithin (length bytes.now) r.lexemes
+        × EndsWithin (length bytes.now) r.ending) }
 {
     let mut lexemes = Items::new(alloc);
     let mut state = State::Gap;
@@ -368,5 +375,6 @@ pub fn lex(alloc: Global, bytes: &[u8]) -> Result<Lexed, AllocError>
 
 /// A text is taken apart in one way.
 pub fn one_lexing()
-    ensures { (bytes : List ℕ) (ls os : List Lexeme) (end last : Ending) → Lexes bytes ls end → Lexes bytes os last → (ls ≡ os) × (end ≡ last) }
+    ensures { (bytes : List ℕ) (ls os : List Lexeme) (end last : Ending) → Lexes bytes ls end
+        → Lexes bytes os last → (ls ≡ os) × (end ≡ last) }
 {}

@@ -35,7 +35,8 @@ pub enum Escaping {
     Wrong,
 }
 
-/// The unfinished token, with the number of bytes that are left where it begins and what was read of it.
+/// The unfinished token, with the number of bytes that are left where it begins and what was read
+/// of it.
 #[derive(Drop)]
 pub enum State {
     Gap,
@@ -43,7 +44,7 @@ pub enum State {
     Signed(usize, Sign),
     Integer(usize, Sign, Items<u8>),
     Variable(usize, Items<u8>),
-    Word(usize, Items<u8>),
+    Keyword(usize, Items<u8>),
     Quoted(usize, Quote, Items<u8>),
     QuotedEscape(usize, Quote, Items<u8>, Escape),
     Character(usize),

@@ -1,6 +1,5 @@
 -- What a call does, as its module and name tell it, and as its operation does.
-use Rattle.std.proofs.Common.{◌≡◌, ℕ, List, length, replicate, Option, Some, None, refl, sym, ap, ◌∙◌}
-use Rattle.std.proofs.lemmas.List.{length-replicate}
+use Rattle.std.proofs.Common.{◌≡◌, ℕ, List, replicate, Option, Some, None, refl}
 use Rattle.hy_core.specs.BuiltIn as operation
 use Rattle.hy_core.specs.BuiltIn.{Operation}
 use Rattle.hy_core.specs.Numbered.{called, sites_of}
@@ -9,8 +8,8 @@ use Rattle.hy_core.specs.declared.tree.Expr.{Expr}
 use Rattle.hy_core.specs.declared.tree.Module.{Module}
 use Rattle.core_names.specs.Called as names
 use Rattle.core_names.specs.Called.{does_of}
-use Rattle.core_tables.specs.CallParts.{built_in_args, call_sites}
-use Rattle.core_tables.specs.NumberedParts.{call_args}
+use Rattle.core_tables.specs.code.CallParts.{built_in_args, call_sites}
+use Rattle.core_tables.specs.code.NumberedParts.{call_args}
 
 pub sites-does : (o : Option Operation) → replicate (call_sites (does_of o)) Setelement ≡ sites_of o
 sites-does None = refl
@@ -20,9 +19,6 @@ sites-does (Some operation.Sends) = refl
 sites-does (Some operation.Spawns) = refl
 sites-does (Some operation.Displays) = refl
 sites-does (Some (operation.RaisesAs class)) = refl
-
-pub call_sites-does : (o : Option Operation) → length (sites_of o) ≡ call_sites (does_of o)
-call_sites-does o = ap length (sym (sites-does o)) ∙ length-replicate (call_sites (does_of o)) Setelement
 
 module _ (table : List (List ℕ)) (m : Module) where
   pub called-does : (a b : Option ℕ) (arity : ℕ) → names.called m a b arity ≡ does_of (called table m a b arity)

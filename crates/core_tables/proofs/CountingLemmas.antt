@@ -5,7 +5,7 @@ use Rattle.std.specs.List.{slice_index_or}
 use Rattle.hy_core.specs.Counting.{Counts, Numbering, made, next, at_node}
 use Rattle.hy_core.specs.declared.info.SiteInfo.{SiteInfo}
 use Rattle.hy_core.specs.declared.info.SiteKind.{SiteKind}
-use Rattle.core_tables.specs.NumberedParts.{each}
+use Rattle.core_tables.specs.code.NumberedParts.{each}
 
 map-replicate : {A B : Type 0} (f : A → B) (x : A) (n : ℕ) → map f (replicate n x) ≡ replicate n (f x)
 map-replicate f x zero = refl

@@ -1,12 +1,9 @@
 pub mod CallLemmas
-pub mod FunctionLemmas
 pub mod CountingLemmas
 pub mod FormLemmas
 pub mod InfosLemmas
-pub mod KeyLemmas
 pub mod LocalLemmas
 pub mod ModulesLemmas
 pub mod NumberedLemmas
-pub mod PlacesLemmas
-pub mod SiteLemmas
+pub mod AtomNumbersLemmas
 pub mod TableLemmas

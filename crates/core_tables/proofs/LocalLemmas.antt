@@ -15,7 +15,7 @@ use Rattle.hy_core.specs.declared.tree.Expr.TheViews.{out-Expr, roll-Expr, roll-
 use Rattle.hy_core.specs.declared.tree.Function.{Function}
 use Rattle.hy_core.specs.declared.tree.Pattern.{Pattern}
 use Rattle.hy_core.proofs.NodesLemmas.{nodes-parts, clause_nodes-parts, definition_nodes-parts}
-use Rattle.core_tables.specs.LocalCount.{definitions_in, local_count, clause_count, definition_count, count_step, clause_count_step, function_count_step}
+use Rattle.core_tables.specs.code.LocalCount.{definitions_in, local_count, clause_count, definition_count, count_step, clause_count_step, function_count_step}
 use Rattle.hy_core.specs.NodeParts.{each_node, end_nodes, parts_layer}
 
 pub definitions_in-append : (xs ys : List Node) → definitions_in (xs ++ ys) ≡ definitions_in xs ++ definitions_in ys

@@ -1,32 +1,17 @@
--- A table of atoms only grows.
-use Rattle.std.proofs.Common.{◌≡◌, ℕ, zero, suc, ◌+◌, ◌<◌, ◌≤◌, ◌^◌, List, [], ◌∷◌, ◌++◌, length, drop, get_or, slice_get, Some, None, codes, refl, sym, ap, ◌∙◌, arith, length-append}
-use Rattle.std.proofs.lemmas.Option.{slice_get-get_or, slice_get_read}
+-- The texts of atoms, one after another.
+use Rattle.std.proofs.Common.{◌≡◌, ℕ, zero, suc, ◌+◌, ◌<◌, List, [], ◌∷◌, ◌++◌, length, drop, slice_get, Some, codes, refl, sym, ap, ◌∙◌, arith}
+use Rattle.std.proofs.lemmas.Option.{slice_get_read}
 use Rattle.std.specs.List.{slice_index_or}
 use Rattle.std.specs.Prelude.{Result, IsErrAnd, IsErrOf}
 use Rattle.std.specs.declared.result.Result.TheVariants.{Ok, Err}
 use Rattle.hy_core.specs.BuiltIn.{own_atoms}
 use Rattle.hy_core.specs.Tables.{with_modules, with_texts}
 use Rattle.hy_core.specs.declared.tree.Module.{Module}
-use Rattle.hy_terms.proofs.NamingLemmas.{named-Names, named-new}
-use Rattle.hy_terms.specs.Naming.{named, place_in}
-
-pub with_texts-longer : (table texts : List (List ℕ)) → length table ≤ length (with_texts table texts)
-with_texts-longer table [] = omega arith
-with_texts-longer table (text ∷ texts) = let n = named-Names table text in omega (arith, n.no_shorter, with_texts-longer (named table text).1 texts)
-
-pub with_modules-longer : (table : List (List ℕ)) (ms : List Module) → length table ≤ length (with_modules table ms)
-with_modules-longer table [] = omega arith
-with_modules-longer table (m ∷ ms) = omega (arith, with_texts-longer table m.atoms, with_modules-longer (with_texts table m.atoms) ms)
+use Rattle.hy_terms.specs.Naming.{named}
 
 pub with_modules-append : (table : List (List ℕ)) (ms ns : List Module) → with_modules table (ms ++ ns) ≡ with_modules (with_modules table ms) ns
 with_modules-append table [] ns = refl
 with_modules-append table (m ∷ ms) ns = with_modules-append (with_texts table m.atoms) ms ns
-
--- a new text makes the table longer
-pub with_new-longer : (table : List (List ℕ)) (text : List ℕ) (texts : List (List ℕ)) → place_in table text ≡ None → length table < length (with_texts table (text ∷ texts))
-with_new-longer table text texts new =
-    let grown = ap (λ (r : ℕ × List (List ℕ)). length r.1) (named-new table text new) in
-    omega (arith, grown, length-append table (text ∷ []), with_texts-longer (named table text).1 texts)
 
 -- the further ones from a place on
 drop-suc : {A : Type 0} (xs : List A) (i : ℕ) (x : A) → slice_get xs i ≡ Some x → drop i xs ≡ x ∷ drop (suc i) xs
@@ -40,15 +25,8 @@ drop-at xs i x h = let one : suc i ≡ i + 1 = omega arith in drop-suc xs i x h 
 pub drop-item : {A : Type 0} (xs : List A) (i : ℕ) (x : A) → i < length xs → x ≡ slice_index_or xs i x → drop i xs ≡ x ∷ drop (i + 1) xs
 drop-item xs i x below is = drop-at xs i x (slice_get_read xs (length xs) i x refl below is)
 
-pub drop-get_or : {A : Type 0} (xs : List A) (i : ℕ) (d : A) → i < length xs → drop i xs ≡ get_or xs i d ∷ drop (i + 1) xs
-drop-get_or xs i d below = drop-at xs i (get_or xs i d) (slice_get-get_or xs i d below)
-
--- a full table that lacks the text at hand is one of too many
-pub with_texts-full : (table first later texts : List (List ℕ)) (text : List ℕ) → with_texts table (text ∷ later) ≡ with_texts first texts → place_in table text ≡ None → length table ≡ 2 ^ 20 → 2 ^ 20 < length (with_texts first texts)
-with_texts-full table first later texts text all new full = omega (arith, with_new-longer table text later new, ap length all)
-
 -- the own atoms are numbered in their order
-own : with_texts [] own_atoms ≡ own_atoms
+pub own : with_texts [] own_atoms ≡ own_atoms
 unfolding named
 own = refl
 

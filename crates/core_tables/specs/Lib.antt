@@ -1,6 +1,1 @@
-pub mod FunctionCount
-pub mod CallParts
-pub mod LocalCount
-pub mod NumberedModules
-pub mod NumberedParts
-pub mod SiteCount
+pub mod code

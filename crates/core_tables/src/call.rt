@@ -1,5 +1,5 @@
 ghost use Rattle.std.specs.Prelude.{◌≡◌};
-ghost use Rattle.core_tables.specs.CallParts.{call_sites as sites_of_call};
+ghost use Rattle.core_tables.specs.code.CallParts.{call_sites as sites_of_call};
 
 use core_names::BuiltIn;
 

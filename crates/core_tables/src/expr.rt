@@ -1,12 +1,12 @@
 ghost use Rattle.std.specs.Prelude.{◌≡◌, ℕ, ◌+◌, IfOk};
-ghost use Rattle.hy_core.specs.Numbered.{numbered};
-ghost use Rattle.core_tables.specs.CallParts.{built_in_args};
-ghost use Rattle.core_tables.specs.NumberedParts.{each, numbered_each, numbered_tail, numbered_clause, numbered_definition, spawned, spawn_args};
+ghost use Rattle.hy_core.specs.Numbered.{numbered_tree};
+ghost use Rattle.core_tables.specs.code.CallParts.{built_in_args};
+ghost use Rattle.core_tables.specs.code.NumberedParts.{each, numbered_each, numbered_tail, numbered_clause, numbered_definition, spawned, spawn_args};
 
+use crate::atom_numbers::{AtomNumbers, renamed, renamed_name};
 use crate::call::call_sites;
 use crate::numbers::Numbers;
 use crate::patterns::{copied_text, number_patterns};
-use crate::places::{Places, renamed, renamed_name};
 use core_names::{BuiltIn, called};
 use hy_core::{Clause, Expr, Function, Module, SiteKind};
 use hy_terms::Memory;
@@ -25,7 +25,8 @@ pub fn copied(alloc: Global, variables: &Items<u32>) -> Result<Items<u32>, Alloc
 
 // An expression with no parts and no sites.
 fn leaf(numbers: &mut Numbers, expr: Expr) -> Result<Expr, Memory>
-    ensures { IfOk result (λ tree. (tree ≡ expr) × (numbers.new ≡ record numbers.old { node = numbers.old.node + 1 })) }
+    ensures { IfOk result (λ tree. (tree ≡ expr)
+        × (numbers.new ≡ record numbers.old { node = numbers.old.node + 1 })) }
 {
     numbers.pass()?;
     Ok(expr)
@@ -35,13 +36,14 @@ fn leaf(numbers: &mut Numbers, expr: Expr) -> Result<Expr, Memory>
 #[cycle(number)]
 pub fn number_expr(
     alloc: Global,
-    places: &Places,
+    places: &AtomNumbers,
     names: &Module,
     numbers: &mut Numbers,
     function: u32,
     expr: &Expr,
 ) -> Result<Expr, Memory>
-    ensures { IfOk result (λ tree. (tree, numbers.new) ≡ numbered places.now names.now expr.now function numbers.old) }
+    ensures { IfOk result (λ tree. (tree, numbers.new) ≡ numbered_tree places.now names.now
+        expr.now function numbers.old) }
 {
     match expr {
         Expr::Int(value) => leaf(numbers, Expr::Int(*value)),
@@ -172,13 +174,14 @@ pub fn number_expr(
 #[cycle(number)]
 fn number_boxed(
     alloc: Global,
-    places: &Places,
+    places: &AtomNumbers,
     names: &Module,
     numbers: &mut Numbers,
     function: u32,
     expr: &Boxed<Expr>,
 ) -> Result<Boxed<Expr>, Memory>
-    ensures { IfOk result (λ tree. (tree, numbers.new) ≡ numbered places.now names.now expr.now function numbers.old) }
+    ensures { IfOk result (λ tree. (tree, numbers.new) ≡ numbered_tree places.now names.now
+        expr.now function numbers.old) }
 {
     let tree = number_expr(alloc, places, names, numbers, function, expr.get())?;
     Ok(Boxed::new(alloc, tree)?)
@@ -188,13 +191,14 @@ fn number_boxed(
 #[cycle(number)]
 fn number_each(
     alloc: Global,
-    places: &Places,
+    places: &AtomNumbers,
     names: &Module,
     numbers: &mut Numbers,
     function: u32,
     exprs: &Items<Expr>,
 ) -> Result<Items<Expr>, Memory>
-    ensures { IfOk result (λ trees. (trees, numbers.new) ≡ numbered_each places.now names.now exprs.now function numbers.old) }
+    ensures { IfOk result (λ trees. (trees, numbers.new) ≡ numbered_each places.now names.now
+        exprs.now function numbers.old) }
 {
     let mut trees = Items::new(alloc);
     for expr in exprs.as_slice() {
@@ -207,13 +211,14 @@ fn number_each(
 #[cycle(number)]
 fn number_tail(
     alloc: Global,
-    places: &Places,
+    places: &AtomNumbers,
     names: &Module,
     numbers: &mut Numbers,
     function: u32,
     tail: &Boxed<Expr>,
 ) -> Result<Boxed<Expr>, Memory>
-    ensures { IfOk result (λ tree. (tree, numbers.new) ≡ numbered_tail places.now names.now tail.now function numbers.old) }
+    ensures { IfOk result (λ tree. (tree, numbers.new) ≡ numbered_tail places.now names.now
+        tail.now function numbers.old) }
 {
     if let Expr::Nil = tail.get() {
         Ok(Boxed::new(alloc, Expr::Nil)?)
@@ -226,13 +231,14 @@ fn number_tail(
 #[cycle(number)]
 fn number_spawned(
     alloc: Global,
-    places: &Places,
+    places: &AtomNumbers,
     names: &Module,
     numbers: &mut Numbers,
     function: u32,
     expr: &Expr,
 ) -> Result<Expr, Memory>
-    ensures { IfOk result (λ tree. (tree, numbers.new) ≡ spawned places.now names.now expr.now function numbers.old) }
+    ensures { IfOk result (λ tree. (tree, numbers.new) ≡ spawned places.now names.now expr.now
+        function numbers.old) }
 {
     if let Expr::List {
         site: _,
@@ -257,14 +263,15 @@ fn number_spawned(
 #[cycle(number)]
 fn number_args(
     alloc: Global,
-    places: &Places,
+    places: &AtomNumbers,
     names: &Module,
     numbers: &mut Numbers,
     function: u32,
     built_in: Option<BuiltIn>,
     args: &Items<Expr>,
 ) -> Result<Items<Expr>, Memory>
-    ensures { IfOk result (λ trees. (trees, numbers.new) ≡ built_in_args places.now names.now built_in args.now function numbers.old) }
+    ensures { IfOk result (λ trees. (trees, numbers.new) ≡ built_in_args places.now names.now
+        built_in args.now function numbers.old) }
 {
     if let Some(BuiltIn::Spawn) = built_in {
         number_spawn_args(alloc, places, names, numbers, function, args)
@@ -277,17 +284,18 @@ fn number_args(
 #[cycle(number)]
 fn number_spawn_args(
     alloc: Global,
-    places: &Places,
+    places: &AtomNumbers,
     names: &Module,
     numbers: &mut Numbers,
     function: u32,
     args: &Items<Expr>,
 ) -> Result<Items<Expr>, Memory>
-    ensures { IfOk result (λ trees. (trees, numbers.new) ≡ spawn_args places.now names.now args.now function numbers.old) }
+    ensures { IfOk result (λ trees. (trees, numbers.new) ≡ spawn_args places.now names.now
+        args.now function numbers.old) }
 {
-    if let [place, name, list] = args.as_slice() {
+    if let [module, name, list] = args.as_slice() {
         let mut trees = Items::new(alloc);
-        trees.push(number_expr(alloc, places, names, numbers, function, place)?)?;
+        trees.push(number_expr(alloc, places, names, numbers, function, module)?)?;
         trees.push(number_expr(alloc, places, names, numbers, function, name)?)?;
         trees.push(number_spawned(alloc, places, names, numbers, function, list)?)?;
         Ok(trees)
@@ -300,13 +308,14 @@ fn number_spawn_args(
 #[cycle(number)]
 fn number_clause(
     alloc: Global,
-    places: &Places,
+    places: &AtomNumbers,
     names: &Module,
     numbers: &mut Numbers,
     function: u32,
     clause: &Clause,
 ) -> Result<Clause, Memory>
-    ensures { IfOk result (λ tree. (tree, numbers.new) ≡ numbered_clause places.now names.now clause.now function numbers.old) }
+    ensures { IfOk result (λ tree. (tree, numbers.new) ≡ numbered_clause places.now names.now
+        clause.now function numbers.old) }
 {
     numbers.pass_patterns(clause.patterns.as_slice())?;
     let guard = number_expr(alloc, places, names, numbers, function, &clause.guard)?;
@@ -323,13 +332,14 @@ fn number_clause(
 #[cycle(number)]
 fn number_clauses(
     alloc: Global,
-    places: &Places,
+    places: &AtomNumbers,
     names: &Module,
     numbers: &mut Numbers,
     function: u32,
     clauses: &Items<Clause>,
 ) -> Result<Items<Clause>, Memory>
-    ensures { IfOk result (λ trees. (trees, numbers.new) ≡ each (numbered_clause places.now names.now) clauses.now function numbers.old) }
+    ensures { IfOk result (λ trees. (trees, numbers.new)
+        ≡ each (numbered_clause places.now names.now) clauses.now function numbers.old) }
 {
     let mut trees = Items::new(alloc);
     for clause in clauses.as_slice() {
@@ -342,12 +352,13 @@ fn number_clauses(
 #[cycle(number)]
 fn number_definition(
     alloc: Global,
-    places: &Places,
+    places: &AtomNumbers,
     names: &Module,
     numbers: &mut Numbers,
     definition: &Function,
 ) -> Result<Function, Memory>
-    ensures { IfOk result (λ tree. (function : ℕ) → (tree, numbers.new) ≡ numbered_definition places.now names.now definition.now function numbers.old) }
+    ensures { IfOk result (λ tree. (function : ℕ) → (tree, numbers.new) ≡ numbered_definition
+        places.now names.now definition.now function numbers.old) }
 {
     let own = numbers.define()?;
     let body = number_expr(alloc, places, names, numbers, own, &definition.body)?;
@@ -362,12 +373,13 @@ fn number_definition(
 #[cycle(number)]
 fn number_definitions(
     alloc: Global,
-    places: &Places,
+    places: &AtomNumbers,
     names: &Module,
     numbers: &mut Numbers,
     definitions: &Items<Function>,
 ) -> Result<Items<Function>, Memory>
-    ensures { IfOk result (λ trees. (function : ℕ) → (trees, numbers.new) ≡ each (numbered_definition places.now names.now) definitions.now function numbers.old) }
+    ensures { IfOk result (λ trees. (function : ℕ) → (trees, numbers.new)
+        ≡ each (numbered_definition places.now names.now) definitions.now function numbers.old) }
 {
     let mut trees = Items::new(alloc);
     for definition in definitions.as_slice() {

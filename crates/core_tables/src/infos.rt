@@ -2,8 +2,8 @@ ghost use Rattle.std.specs.Prelude.{◌≡◌, ◌++◌, length, map, replicate,
 ghost use Rattle.hy_core.specs.Tables.{info_of as info_in, local_functions, local_infos, program_atoms, program_functions, top_infos};
 ghost use Rattle.hy_core.specs.SubPatterns.{joined};
 
+use crate::atom_numbers::{AtomNumbers, info_of};
 use crate::local_count::count_locals;
-use crate::places::{Places, info_of};
 use crate::repeated::push_same;
 use hy_core::{FunInfo, Function, Module, Program};
 use hy_terms::Memory;
@@ -19,8 +19,9 @@ pub(crate) fn local_functions_of(function: &Function) -> Result<usize, Memory>
 }
 
 // Appends the functions of a module.
-fn push_module(infos: &mut Vec<FunInfo>, places: &Places, names: &Module) -> Result<(), Memory>
-    ensures { OnOk result (infos.new.items ≡ infos.old.items ++ map (info_in places.now names.now) names.now.functions) }
+fn push_module(infos: &mut Vec<FunInfo>, places: &AtomNumbers, names: &Module) -> Result<(), Memory>
+    ensures { OnOk result (infos.new.items ≡ infos.old.items ++ map (info_in places.now names.now)
+        names.now.functions) }
 {
     let functions = names.functions.as_slice();
     for function in functions {
@@ -30,7 +31,11 @@ fn push_module(infos: &mut Vec<FunInfo>, places: &Places, names: &Module) -> Res
 }
 
 // Appends the functions of modules, those of letrecs aside.
-fn push_top(infos: &mut Vec<FunInfo>, places: &Places, modules: &[Module]) -> Result<(), Memory>
+fn push_top(
+    infos: &mut Vec<FunInfo>,
+    places: &AtomNumbers,
+    modules: &[Module],
+) -> Result<(), Memory>
     ensures { OnOk result (infos.new.items ≡ infos.old.items ++ top_infos places.now modules.now) }
 {
     for names in modules {
@@ -40,8 +45,15 @@ fn push_top(infos: &mut Vec<FunInfo>, places: &Places, modules: &[Module]) -> Re
 }
 
 // Appends the functions of the letrecs of a module.
-fn push_letrecs(infos: &mut Vec<FunInfo>, places: &Places, names: &Module) -> Result<(), Memory>
-    ensures { OnOk result (infos.new.items ≡ infos.old.items ++ joined (map (λ f. replicate (length (local_functions f)) (info_in places.now names.now f)) names.now.functions)) }
+fn push_letrecs(
+    infos: &mut Vec<FunInfo>,
+    places: &AtomNumbers,
+    names: &Module,
+) -> Result<(), Memory>
+    ensures { OnOk result (infos.new.items ≡ infos.old.items
+        ++ joined (map
+        (λ f. replicate (length (local_functions f)) (info_in places.now names.now f))
+        names.now.functions)) }
 {
     let functions = names.functions.as_slice();
     for function in functions {
@@ -52,8 +64,13 @@ fn push_letrecs(infos: &mut Vec<FunInfo>, places: &Places, names: &Module) -> Re
 }
 
 // Appends the functions of the letrecs of modules.
-fn push_local(infos: &mut Vec<FunInfo>, places: &Places, modules: &[Module]) -> Result<(), Memory>
-    ensures { OnOk result (infos.new.items ≡ infos.old.items ++ local_infos places.now modules.now) }
+fn push_local(
+    infos: &mut Vec<FunInfo>,
+    places: &AtomNumbers,
+    modules: &[Module],
+) -> Result<(), Memory>
+    ensures { OnOk result (infos.new.items ≡ infos.old.items
+        ++ local_infos places.now modules.now) }
 {
     for names in modules {
         push_letrecs(infos, places, names)?;
@@ -66,7 +83,7 @@ fn push_local(infos: &mut Vec<FunInfo>, places: &Places, modules: &[Module]) -> 
 pub fn function_table(
     alloc: Global,
     program: &Program,
-    places: &Places,
+    places: &AtomNumbers,
 ) -> Result<Vec<FunInfo>, Memory>
     requires { places.now ≡ program_atoms program.now }
     ensures { IfOk result (λ infos. infos.items ≡ program_functions program.now) }

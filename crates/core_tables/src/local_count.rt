@@ -1,11 +1,11 @@
 ghost use Rattle.std.specs.Prelude.{◌≡◌, ◌+◌, map, sum, OnOk};
-ghost use Rattle.core_tables.specs.LocalCount.{local_count, clause_count, definition_count};
+ghost use Rattle.core_tables.specs.code.LocalCount.{local_count, clause_count, definition_count};
 
 use hy_core::{Clause, Expr, Function};
 use hy_terms::Memory;
 
-/// Adds to a count. `Memory` where the sum is too great.
-pub fn add(count: &mut usize, more: usize) -> Result<(), Memory>
+// Adds to a count. `Memory` where the sum is too great.
+fn add(count: &mut usize, more: usize) -> Result<(), Memory>
     ensures { OnOk result (count.new ≡ count.old + more) }
 {
     *count = count.checked_add(more).ok_or(Memory)?;

@@ -1,11 +1,11 @@
 ghost use Rattle.std.specs.Prelude.{◌≡◌, ◌+◌, length, map, reverse, IfOk, OnOk};
 ghost use Rattle.hy_core.specs.Numbered.{function_count, numbered_functions, numbered_modules, numbered_program, program_sites};
 ghost use Rattle.hy_core.specs.Tables.{program_atoms, renamed_name as renamed_name_in};
-ghost use Rattle.core_tables.specs.NumberedModules.{numbered_function, numbered_module};
+ghost use Rattle.core_tables.specs.code.NumberedModules.{numbered_function, numbered_module};
 
+use crate::atom_numbers::{AtomNumbers, renamed, renamed_name};
 use crate::expr::{copied, number_expr};
 use crate::numbers::Numbers;
-use crate::places::{Places, renamed, renamed_name};
 use hy_core::{FunName, Function, Module, Program, SiteInfo};
 use hy_terms::{Atoms, Memory};
 use sqlite_items::Items;
@@ -40,13 +40,14 @@ fn count_functions(count: &mut u32, modules: &[Module]) -> Result<(), Memory>
 // A function of a module, which has this number.
 fn number_function(
     alloc: Global,
-    places: &Places,
+    places: &AtomNumbers,
     names: &Module,
     numbers: &mut Numbers,
     number: u32,
     function: &Function,
 ) -> Result<Function, Memory>
-    ensures { IfOk result (λ tree. (tree, numbers.new) ≡ numbered_function places.now names.now number function.now numbers.old) }
+    ensures { IfOk result (λ tree. (tree, numbers.new) ≡ numbered_function places.now names.now
+        number function.now numbers.old) }
 {
     numbers.enter();
     let body = number_expr(alloc, places, names, numbers, number, &function.body)?;
@@ -60,12 +61,13 @@ fn number_function(
 // The functions of a module, whose first has the next number.
 fn number_functions(
     alloc: Global,
-    places: &Places,
+    places: &AtomNumbers,
     names: &Module,
     numbers: &mut Numbers,
     next: &mut u32,
 ) -> Result<Items<Function>, Memory>
-    ensures trees { IfOk result (λ trees. (trees, numbers.new) ≡ numbered_functions places.now names.now next.old names.now.functions numbers.old) }
+    ensures trees { IfOk result (λ trees. (trees, numbers.new) ≡ numbered_functions places.now
+        names.now next.old names.now.functions numbers.old) }
     ensures next { OnOk result (next.new ≡ next.old + length names.now.functions) }
 {
     let mut trees = Items::new(alloc);
@@ -77,8 +79,13 @@ fn number_functions(
 }
 
 // The names that a module exports.
-fn number_exports(alloc: Global, places: &Places, names: &Module) -> Result<Items<FunName>, Memory>
-    ensures { IfOk result (λ exports. exports ≡ map (renamed_name_in places.now names.now) names.now.exports) }
+fn number_exports(
+    alloc: Global,
+    places: &AtomNumbers,
+    names: &Module,
+) -> Result<Items<FunName>, Memory>
+    ensures { IfOk result (λ exports. exports ≡ map (renamed_name_in places.now names.now)
+        names.now.exports) }
 {
     let mut exports = Items::new(alloc);
     for name in names.exports.as_slice() {
@@ -90,12 +97,13 @@ fn number_exports(alloc: Global, places: &Places, names: &Module) -> Result<Item
 // A module, whose first function has the next number.
 fn number_module(
     alloc: Global,
-    places: &Places,
+    places: &AtomNumbers,
     numbers: &mut Numbers,
     next: &mut u32,
     names: Module,
 ) -> Result<Module, Memory>
-    ensures tree { IfOk result (λ tree. (tree, numbers.new) ≡ numbered_module places.now next.old names numbers.old) }
+    ensures tree { IfOk result (λ tree. (tree, numbers.new) ≡ numbered_module places.now next.old
+        names numbers.old) }
     ensures next { OnOk result (next.new ≡ next.old + length names.functions) }
 {
     let name = renamed(places, &names, names.name);
@@ -131,12 +139,13 @@ fn reversed(alloc: Global, mut modules: Items<Module>) -> Result<Items<Module>, 
 // Modules, whose first function has the next number.
 fn number_modules(
     alloc: Global,
-    places: &Places,
+    places: &AtomNumbers,
     numbers: &mut Numbers,
     next: &mut u32,
     modules: Items<Module>,
 ) -> Result<Items<Module>, Memory>
-    ensures trees { IfOk result (λ trees. (trees, numbers.new) ≡ numbered_modules places.now next.old modules numbers.old) }
+    ensures trees { IfOk result (λ trees. (trees, numbers.new) ≡ numbered_modules places.now
+        next.old modules numbers.old) }
     ensures next { OnOk result (next.new ≡ next.old + function_count modules) }
 {
     let mut left = reversed(alloc, modules)?;
@@ -150,7 +159,11 @@ fn number_modules(
 /// The program with the numbers of its own atoms and sites, and the table of its sites. The places
 /// are those of the program's table of atoms. `Memory` for want of memory, or where a number would
 /// pass its type.
-pub fn number_program(alloc: Global, program: Program, places: &Places) -> Result<Numbered, Memory>
+pub fn number_program(
+    alloc: Global,
+    program: Program,
+    places: &AtomNumbers,
+) -> Result<Numbered, Memory>
     requires { places.now ≡ program_atoms program }
     ensures program { IfOk result (λ numbered. numbered.program ≡ numbered_program program) }
     ensures sites { IfOk result (λ numbered. numbered.sites.items ≡ program_sites program) }

@@ -62,7 +62,8 @@ impl Numbers {
 
     /// Goes past a node that has so many sites of this kind, and gives the number of the first.
     pub fn build(&mut self, function: u32, kind: SiteKind, times: usize) -> Result<u32, Memory>
-        ensures { IfOk result (λ site. (site, self.new) ≡ at_node (replicate times kind) made function self.old) }
+        ensures { IfOk result (λ site. (site, self.new) ≡ at_node (replicate times kind) made
+            function self.old) }
     {
         let first = next_site(&self.sites)?;
         let site = SiteInfo {
@@ -77,14 +78,16 @@ impl Numbers {
 
     /// Goes past the nodes of the patterns of a clause.
     pub fn pass_patterns(&mut self, patterns: &[Pattern]) -> Result<(), Memory>
-        ensures { OnOk result (self.new ≡ record self.old { node = self.old.node + length (patterns_in patterns.now) }) }
+        ensures { OnOk result (self.new ≡ record self.old
+            { node = self.old.node + length (patterns_in patterns.now) }) }
     {
         pass_patterns(&mut self.node, patterns)
     }
 
     /// The number of the next function of a letrec.
     pub fn define(&mut self) -> Result<u32, Memory>
-        ensures { IfOk result (λ function. (function ≡ self.old.local) × (self.new ≡ record self.old { local = self.old.local + 1 })) }
+        ensures { IfOk result (λ function. (function ≡ self.old.local)
+            × (self.new ≡ record self.old { local = self.old.local + 1 })) }
     {
         let function = self.local;
         self.local = function.checked_add(1).ok_or(Memory)?;

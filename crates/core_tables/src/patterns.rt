@@ -1,7 +1,7 @@
 ghost use Rattle.std.specs.Prelude.{◌≡◌, map, IfOk};
-ghost use Rattle.hy_core.specs.Numbered.{numbered_pattern};
+ghost use Rattle.core_tables.specs.code.NumberedParts.{numbered_pattern};
 
-use crate::places::{Places, renamed};
+use crate::atom_numbers::{AtomNumbers, renamed};
 use hy_core::{Module, Pattern, Text};
 use hy_terms::Memory;
 use sqlite_items::{Boxed, Items};
@@ -18,11 +18,12 @@ pub fn copied_text(alloc: Global, text: &Text) -> Result<Text, AllocError>
 #[cycle(number)]
 fn number_pattern(
     alloc: Global,
-    places: &Places,
+    places: &AtomNumbers,
     names: &Module,
     pattern: &Pattern,
 ) -> Result<Pattern, Memory>
-    ensures { IfOk result (λ numbered. numbered ≡ numbered_pattern places.now names.now pattern.now) }
+    ensures { IfOk result (λ numbered. numbered ≡ numbered_pattern places.now
+        names.now pattern.now) }
 {
     match pattern {
         Pattern::Var(variable) => Ok(Pattern::Var(*variable)),
@@ -52,11 +53,12 @@ fn number_pattern(
 #[cycle(number)]
 pub fn number_patterns(
     alloc: Global,
-    places: &Places,
+    places: &AtomNumbers,
     names: &Module,
     patterns: &[Pattern],
 ) -> Result<Items<Pattern>, Memory>
-    ensures { IfOk result (λ numbered. numbered ≡ map (numbered_pattern places.now names.now) patterns.now) }
+    ensures { IfOk result (λ numbered. numbered ≡ map (numbered_pattern places.now names.now)
+        patterns.now) }
 {
     let mut numbered = Items::new(alloc);
     for pattern in patterns {

@@ -1,50 +1,45 @@
-ghost use Rattle.std.specs.Prelude.{◌≡◌, ◌<◌, ◌≤◌, ◌^◌, length, map, IfOk, OnOk, IsErrOf};
+ghost use Rattle.std.specs.Prelude.{◌≡◌, map, IfOk, OnOk};
 ghost use Rattle.hy_core.specs.BuiltIn.{own_atoms};
 ghost use Rattle.hy_core.specs.Tables.{program_atoms, with_modules, with_texts};
-ghost use Rattle.hy_terms.specs.declared.atoms.AtomFault.TheVariants.{TooManyAtoms};
 
 use hy_core::{Module, Program};
-use hy_terms::{AtomFault, Atoms};
+use hy_terms::{Atoms, Memory, TextTable};
 use std::alloc::Global;
 
-// Numbers the texts that are new, in their order.
-fn intern_texts(table: &mut Atoms, texts: &[&[u8]]) -> Result<(), AtomFault>
-    ensures ok { OnOk result (table.new ≡ with_texts table.old (map (λ text. text.now) texts.now)) }
-    ensures full { IsErrOf result TooManyAtoms → 2 ^ 20 < length (with_texts table.old (map (λ text. text.now) texts.now)) }
+// Names the texts that are new, in their order.
+fn name_texts(table: &mut TextTable, texts: &[&[u8]]) -> Result<(), Memory>
+    ensures { OnOk result (table.new ≡ with_texts table.old (map (λ text. text.now) texts.now)) }
 {
     for text in texts {
-        table.intern(text)?;
+        table.name(text)?;
     }
     Ok(())
 }
 
-// Numbers the texts of another table that are new, in their order.
-fn intern_atoms(table: &mut Atoms, atoms: &Atoms) -> Result<(), AtomFault>
-    ensures ok { OnOk result (table.new ≡ with_texts table.old atoms.now) }
-    ensures full { IsErrOf result TooManyAtoms → 2 ^ 20 < length (with_texts table.old atoms.now) }
+// Names the texts of a table of atoms that are new, in their order.
+fn name_atoms(table: &mut TextTable, atoms: &Atoms) -> Result<(), Memory>
+    ensures { OnOk result (table.new ≡ with_texts table.old atoms.now) }
 {
     for atom in 0..atoms.len() {
-        table.intern(atoms.text(atom))?;
+        table.name(atoms.text(atom))?;
     }
     Ok(())
 }
 
-fn intern_modules(table: &mut Atoms, modules: &[Module]) -> Result<(), AtomFault>
-    ensures ok { OnOk result (table.new ≡ with_modules table.old modules.now) }
-    ensures full { IsErrOf result TooManyAtoms → 2 ^ 20 < length (with_modules table.old modules.now) }
+fn name_modules(table: &mut TextTable, modules: &[Module]) -> Result<(), Memory>
+    ensures { OnOk result (table.new ≡ with_modules table.old modules.now) }
 {
     for names in modules {
-        intern_atoms(table, &names.atoms)?;
+        name_atoms(table, &names.atoms)?;
     }
     Ok(())
 }
 
 // The atoms with which the table of each program begins.
-fn own_table(alloc: Global) -> Result<Atoms, AtomFault>
-    ensures ok { IfOk result (λ table. table ≡ own_atoms) }
-    ensures full { IsErrOf result TooManyAtoms → 2 ^ 20 < length own_atoms }
+fn own_texts(alloc: Global) -> Result<TextTable, Memory>
+    ensures { IfOk result (λ table. table ≡ own_atoms) }
 {
-    let mut table = Atoms::new(alloc);
+    let mut table = TextTable::new(alloc);
     let texts = [
         b"true".as_slice(),
         b"false".as_slice(),
@@ -54,20 +49,17 @@ fn own_table(alloc: Global) -> Result<Atoms, AtomFault>
         b"no_clause".as_slice(),
         b"function_clause".as_slice(),
     ];
-    intern_texts(&mut table, texts.as_slice())?;
+    name_texts(&mut table, texts.as_slice())?;
     Ok(table)
 }
 
-/// The table of a program's atoms: its own first ones, then those of each module that are new, the
-/// given modules before the prelude. `TooManyAtoms` exactly where the program has more than 2^20
-/// atoms, and `Memory` for want of memory.
-pub fn program_table(alloc: Global, program: &Program) -> Result<Atoms, AtomFault>
-    ensures ok { IfOk result (λ table. table ≡ program_atoms program.now) }
-    ensures few { OnOk result (length (program_atoms program.now) ≤ 2 ^ 20) }
-    ensures full { IsErrOf result TooManyAtoms → 2 ^ 20 < length (program_atoms program.now) }
+/// The texts of a program's atoms, however many: its own first ones, then those of each module that
+/// are new, the given modules before the prelude. `Memory` for want of memory.
+pub fn program_texts(alloc: Global, program: &Program) -> Result<TextTable, Memory>
+    ensures { IfOk result (λ table. table ≡ program_atoms program.now) }
 {
-    let mut table = own_table(alloc)?;
-    intern_modules(&mut table, program.given.as_slice())?;
-    intern_modules(&mut table, program.prelude.as_slice())?;
+    let mut table = own_texts(alloc)?;
+    name_modules(&mut table, program.given.as_slice())?;
+    name_modules(&mut table, program.prelude.as_slice())?;
     Ok(table)
 }

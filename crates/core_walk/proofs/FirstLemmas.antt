@@ -1,6 +1,6 @@
 -- What a check finds first is the first that it shows.
 use Rattle.std.proofs.Common.{◌≡◌, ℕ, zero, suc, ◌+◌, ◌<◌, ◌≤◌, ◌⊎◌, inl, inr, Bool, true, false, if◌then◌else◌, List, [], ◌∷◌, Option, Some, None, slice_get, refl, sym, ap, ◌∙◌, subst, arith}
-use Rattle.hy_core.specs.Faults.{fault, fault_of, IsFunction, IsUpTo, at_end, lower, same, form_place, order_of}
+use Rattle.hy_core.specs.Faults.{fault, fault_of, IsGivenFunction, IsUpTo, at_end, lower, same, form_place, order_of}
 use Rattle.hy_core.specs.Nodes.{Node, nodes_of}
 use Rattle.hy_core.specs.declared.fault.Form.{Form}
 use Rattle.hy_core.specs.declared.fault.Form.TheVariants.{Absent}
@@ -235,7 +235,7 @@ module _ (forms : Forms) where
         let z : i ≡ r.0 = omega arith in
         in_functions r.0 r.1 x r.2 (subst (λ n. InFunctions n r.1 0 r.1.functions x) z r.3)
       where
-        at : (i j k : ℕ) (m : Module) (f : Function) (form : Form) → IsFunction program i j m f → InFunction m j f k form → IsShown forms program kind (fault_of kind i j k form)
+        at : (i j k : ℕ) (m : Module) (f : Function) (form : Form) → IsGivenFunction program i j m f → InFunction m j f k form → IsShown forms program kind (fault_of kind i j k form)
         at i j k m f form around (whole e) = by_function around e
         at i j k m f form around (part p) =
             let r = node_from p in
@@ -250,7 +250,7 @@ module _ (forms : Forms) where
             subst (λ x. IsShown forms program kind x) (sym (r.5 ∙ ap (λ j. fault_of kind i j r.2 r.3) z))
             (at i r.0 r.2 m r.1 r.3 (record { given = given; defined = r.4 }) (subst (λ j. InFunction m j r.1 r.2 r.3) z r.6))
 
-    placed : (program : Program) (i j k : ℕ) (m : Module) (f : Function) (form : Form) → IsFunction program i j m f → InFunction m j f k form → InModules 0 program.given (fault_of kind i j k form)
+    placed : (program : Program) (i j k : ℕ) (m : Module) (f : Function) (form : Form) → IsGivenFunction program i j m f → InFunction m j f k form → InModules 0 program.given (fault_of kind i j k form)
     placed program i j k m f form around h =
         let y : j ≡ 0 + j = omega arith in
         let z : i ≡ 0 + i = omega arith in

@@ -8,7 +8,7 @@ use Rattle.hy_core.specs.declared.fault.Form.{Form}
 use Rattle.hy_core.specs.declared.tree.Module.{Module}
 use Rattle.hy_core.specs.declared.tree.Pattern.{Pattern}
 use Rattle.core_walk.specs.declared.position.Position.{Position}
-use Rattle.core_walk.specs.declared.position.Spot.{Spot}
+use Rattle.core_walk.specs.declared.position.Demand.{Demand}
 use Rattle.core_walk.specs.declared.stop.Stop.{Stop}
 use Rattle.core_walk.specs.declared.stop.Stop.TheVariants as stop
 use Rattle.std.specs.declared.result.Result.TheVariants.{Ok, Err}
@@ -28,8 +28,8 @@ walked-append check [] ys k = refl
 walked-append check (x ∷ xs) ys k = ap (looked (check x) k) (walked-append check xs ys (suc k)) ∙ looked-further check (check x) k (walked check xs (suc k)) ys
 
 -- the context is the same where nothing else is bound
-pub same_context : {check : Node → Option Form} {ns : List Node} {before after : Position} (spot : Spot) → IsPassed check ns before after → context_of after spot ≡ context_of before spot
-same_context spot h = λ i. record { scope = h.same_scope i; locals = h.same_locals i; needs = spot.needs; in_guard = spot.in_guard; place = spot.place }
+pub same_context : {check : Node → Option Form} {ns : List Node} {before after : Position} (demand : Demand) → IsPassed check ns before after → context_of after demand ≡ context_of before demand
+same_context demand h = λ i. record { scope = h.same_scope i; locals = h.same_locals i; needs = demand.needs; in_guard = demand.in_guard; place = demand.place }
 
 -- a walk over the second part, behind the first
 goes_on : (check : Node → Option Form) (xs ys : List Node) (r : Result (Unit {0}) Stop) (before middle after : Position) → IsPassed check xs before middle → Walks r check ys middle after → Walks r check (xs ++ ys) before after
@@ -42,10 +42,10 @@ goes_on check xs ys (Err (stop.Found found)) before middle after h k = walked-ap
 goes_on check xs ys (Err stop.Memory) before middle after h k = tt
 
 -- the next part in the same context
-pub then_part : {check : Node → Option Form} {xs : List Node} {before middle : Position} (part : Nodes) (spot : Spot) (r : Result (Unit {0}) Stop) (after : Position)
-    → IsPassed check xs before middle → Walks r check (part (context_of middle spot)) middle after → Walks r check (xs ++ part (context_of before spot)) before after
-then_part {check = check} {xs = xs} {before = before} {middle = middle} part spot r after h w =
-    goes_on check xs (part (context_of before spot)) r before middle after h (subst (λ c. Walks r check (part c) middle after) (same_context spot h) w)
+pub then_part : {check : Node → Option Form} {xs : List Node} {before middle : Position} (part : Nodes) (demand : Demand) (r : Result (Unit {0}) Stop) (after : Position)
+    → IsPassed check xs before middle → Walks r check (part (context_of middle demand)) middle after → Walks r check (xs ++ part (context_of before demand)) before after
+then_part {check = check} {xs = xs} {before = before} {middle = middle} part demand r after h w =
+    goes_on check xs (part (context_of before demand)) r before middle after h (subst (λ c. Walks r check (part c) middle after) (same_context demand h) w)
 
 -- the same nodes
 pub over_same : (check : Node → Option Form) (xs ns : List Node) (r : Result (Unit {0}) Stop) (before after : Position) → ns ≡ xs → Walks r check xs before after → Walks r check ns before after
@@ -93,15 +93,15 @@ patterns-passed forms m c (p ∷ ps) k j none to =
     ∙ ap Passed (omega (arith, to))
 
 -- the contexts of the guard and of the body of a clause, behind its patterns
-pub guard_context : {check : Node → Option Form} {ns : List Node} {before after : Position} (spot guard : Spot) (scope variables : List ℕ) → IsPassed check ns before after → scope ≡ after.scope ++ variables
-    → guard ≡ record { needs = 1; in_guard = true; place = WholeGuard } → context_of (record after { scope = scope }) guard ≡ guarding variables (context_of before spot)
-guard_context spot guard scope variables h bound is =
+pub guard_context : {check : Node → Option Form} {ns : List Node} {before after : Position} (demand guard : Demand) (scope variables : List ℕ) → IsPassed check ns before after → scope ≡ after.scope ++ variables
+    → guard ≡ record { needs = 1; in_guard = true; place = WholeGuard } → context_of (record after { scope = scope }) guard ≡ guarding variables (context_of before demand)
+guard_context demand guard scope variables h bound is =
     let scopes = bound ∙ ap (λ s. s ++ variables) h.same_scope in
     λ i. record { scope = scopes i; locals = h.same_locals i; needs = (is i).needs; in_guard = (is i).in_guard; place = (is i).place }
 
-pub body_context : {check : Node → Option Form} {ns : List Node} {before after : Position} (spot : Spot) (at : Position) (scope variables : List ℕ) → IsPassed check ns before after → scope ≡ after.scope ++ variables
-    → at.scope ≡ scope → at.locals ≡ after.locals → inside (context_of at spot) ≡ binding variables (context_of before spot)
-body_context spot at scope variables h bound same_scope same_locals =
+pub body_context : {check : Node → Option Form} {ns : List Node} {before after : Position} (demand : Demand) (at : Position) (scope variables : List ℕ) → IsPassed check ns before after → scope ≡ after.scope ++ variables
+    → at.scope ≡ scope → at.locals ≡ after.locals → inside (context_of at demand) ≡ binding variables (context_of before demand)
+body_context demand at scope variables h bound same_scope same_locals =
     let scopes = same_scope ∙ bound ∙ ap (λ s. s ++ variables) h.same_scope in
     let locals = same_locals ∙ h.same_locals in
-    λ i. record { scope = scopes i; locals = locals i; needs = spot.needs; in_guard = spot.in_guard; place = Anywhere }
+    λ i. record { scope = scopes i; locals = locals i; needs = demand.needs; in_guard = demand.in_guard; place = Anywhere }

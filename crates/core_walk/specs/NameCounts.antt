@@ -23,5 +23,6 @@ abbrev pub count_of : {S : Type 0} → IndexMap Key ℕ S → FunName → ℕ
 count_of counts f = unwrap_or (get is_key counts (key_of f)) 0
 
 -- the number at each name says how often it stands in the list
-pub record CountsNames {S : Type 0} (counts : IndexMap Key ℕ S) (names : List FunName) : Type 0 where
+pub record CountsNames {S : Type 0} (counts : IndexMap Key ℕ S)
+    (names : List FunName) : Type 0 where
   pub at : (f : FunName) → count_of counts f ≡ times_named names f

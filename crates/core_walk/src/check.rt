@@ -1,7 +1,7 @@
 ghost use Rattle.std.specs.Prelude.{◌≡◌, IfOk};
 ghost use Rattle.core_walk.specs.Walk.{Forms, context_of, form_if};
 
-use crate::position::{Position, Spot};
+use crate::position::{Demand, Position};
 use hy_core::{Expr, Form, Function, Module, Pattern};
 use hy_terms::Memory;
 
@@ -15,9 +15,10 @@ pub trait Check {
         names: &Module,
         expr: &Expr,
         at: &Position,
-        spot: Spot,
+        demand: Demand,
     ) -> Result<Option<Form>, Memory>
-        ensures { IfOk result (λ form. form ≡ (forms self.now).of_expr names.now expr.now (context_of at.now spot)) };
+        ensures { IfOk result (λ form. form
+            ≡ (forms self.now).of_expr names.now expr.now (context_of at.now demand)) };
 
     /// The form of the fault of the patterns of a clause, where they have one.
     fn patterns_fault(&self, patterns: &[Pattern]) -> Result<Option<Form>, Memory>
@@ -30,7 +31,8 @@ pub trait Check {
         place: usize,
         function: &Function,
     ) -> Result<bool, Memory>
-        ensures { IfOk result (λ fails. fails ≡ (forms self.now).of_function names.now place function.now) };
+        ensures { IfOk result (λ fails. fails
+            ≡ (forms self.now).of_function names.now place function.now) };
 }
 
 /// The form of a fault whose kind tells all.

@@ -3,7 +3,7 @@ ghost use Rattle.core_walk.specs.First.{IsOutside, Tells, function_outcome, firs
 
 use crate::check::Check;
 use crate::function_names::FunctionNames;
-use crate::position::{Position, Spot};
+use crate::position::{Demand, Position};
 use crate::scope::Scope;
 use crate::stop::{Found, Stop};
 use crate::walk::walk_expr;
@@ -21,8 +21,9 @@ pub fn number(place: usize) -> Result<u32, Memory>
     Ok(place as u32)
 }
 
-// The first node of a function at which the check fails, from where nothing is bound; where none fails, nothing is
-// bound again. The position keeps its memory from one function to the next, however many variables a module has.
+// The first node of a function at which the check fails, from where nothing is bound; where none
+// fails, nothing is bound again. The position keeps its memory from one function to the next,
+// however many variables a module has.
 fn first_node<C: Check>(
     check: &C,
     names: &Module,
@@ -31,7 +32,8 @@ fn first_node<C: Check>(
     function: &Function,
 ) -> Result<Option<Found>, Memory>
     requires { IsOutside at.old }
-    ensures found { IfOk result (λ found. Tells found (function_outcome (C.forms check.now) names.now place function.now)) }
+    ensures found { IfOk result (λ found. Tells found
+        (function_outcome (C.forms check.now) names.now place function.now)) }
     ensures outside { IfOk result (λ found. found ≡ None → IsOutside at.new) }
 {
     if check.function_fault(names, place, function)? {
@@ -42,12 +44,12 @@ fn first_node<C: Check>(
     }
     at.node = 0;
     at.scope.bind_all(function.params.as_slice())?;
-    let spot = Spot {
+    let demand = Demand {
         needs: 1,
         in_guard: false,
         place: Place::Anywhere,
     };
-    match walk_expr(check, names, at, spot, &function.body) {
+    match walk_expr(check, names, at, demand, &function.body) {
         Ok(()) => {
             at.scope.leave(0);
             Ok(None)
@@ -65,7 +67,8 @@ pub fn first_in_module<C: Check>(
     place: usize,
     names: &Module,
 ) -> Result<Option<LintFault>, Memory>
-    ensures { IfOk result (λ fault. fault ≡ first_in_functions (C.forms check.now) kind place names.now 0 names.now.functions) }
+    ensures { IfOk result (λ fault. fault ≡ first_in_functions (C.forms check.now) kind place
+        names.now 0 names.now.functions) }
 {
     let mut at = Position {
         node: 0,
@@ -94,7 +97,8 @@ pub fn first_in_program<C: Check>(
     kind: u8,
     modules: &[Module],
 ) -> Result<Option<LintFault>, Memory>
-    ensures { IfOk result (λ fault. fault ≡ first_in_modules (C.forms check.now) kind 0 modules.now) }
+    ensures { IfOk result (λ fault. fault ≡ first_in_modules (C.forms check.now)
+        kind 0 modules.now) }
 {
     for (i, names) in modules.iter().enumerate() {
         let found = first_in_module(alloc, check, kind, i, names)?;

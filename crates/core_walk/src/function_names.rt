@@ -57,7 +57,8 @@ fn set_count(
     name: FunName,
     count: usize,
 ) -> Result<(), Memory>
-    ensures ok { OnOk result ((f : AnyName) → count_at counts.new f ≡ (if is_name name f then count else count_at counts.old f)) }
+    ensures ok { OnOk result ((f : AnyName) → count_at counts.new f
+        ≡ (if is_name name f then count else count_at counts.old f)) }
     ensures err { OnErr result (IsUnchanged counts.old counts.new) }
 {
     counts.insert(key_of(name), count)?;
@@ -67,7 +68,8 @@ fn set_count(
 // Counts a name once less.
 fn uncount(counts: &mut IndexMap<(u32, u32), usize>, name: FunName)
     requires { 0 < count_at counts.old name }
-    ensures { (f : AnyName) → count_at counts.new f ≡ (if is_name name f then count_at counts.old name - 1 else count_at counts.old f) }
+    ensures { (f : AnyName) → count_at counts.new f
+        ≡ (if is_name name f then count_at counts.old name - 1 else count_at counts.old f) }
 {
     if let Some(count) = counts.get_mut(&key_of(name)) {
         *count -= 1;

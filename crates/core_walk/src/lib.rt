@@ -16,6 +16,6 @@ pub use check::{Check, form_of};
 pub use first::{first_in_module, first_in_program, number};
 pub use function_names::FunctionNames;
 pub use patterns::push_variables;
-pub use position::{Position, Spot};
+pub use position::{Demand, Position};
 pub use scope::Scope;
 pub use walk::is_nil;

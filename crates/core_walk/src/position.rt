@@ -15,28 +15,28 @@ pub struct Position {
 
 /// What the place of an expression asks of it.
 #[derive(Clone, Copy, Debug, PartialEq, Eq)]
-pub struct Spot {
+pub struct Demand {
     pub needs: usize,
     pub in_guard: bool,
     pub place: Place,
 }
 
-impl Spot {
+impl Demand {
     /// As many values as the whole needs.
-    pub fn inside(self) -> Spot
+    pub fn inside(self) -> Demand
         ensures { result ≡ record self { place = Anywhere } }
     {
-        Spot {
+        Demand {
             place: Place::Anywhere,
             ..self
         }
     }
 
     /// So many values.
-    pub fn for_values(self, needs: usize) -> Spot
+    pub fn for_values(self, needs: usize) -> Demand
         ensures { result ≡ record self { needs = needs; place = Anywhere } }
     {
-        Spot {
+        Demand {
             needs,
             place: Place::Anywhere,
             ..self
@@ -44,10 +44,10 @@ impl Spot {
     }
 
     /// One value, at a place of its own kind.
-    pub fn at_place(self, place: Place) -> Spot
+    pub fn at_place(self, place: Place) -> Demand
         ensures { result ≡ record self { needs = 1; place = place } }
     {
-        Spot {
+        Demand {
             needs: 1,
             place,
             ..self
@@ -55,10 +55,10 @@ impl Spot {
     }
 
     /// The guard of a clause.
-    pub fn guarding(self) -> Spot
+    pub fn guarding(self) -> Demand
         ensures { result ≡ record { needs = 1; in_guard = true; place = WholeGuard } }
     {
-        Spot {
+        Demand {
             needs: 1,
             in_guard: true,
             place: Place::WholeGuard,

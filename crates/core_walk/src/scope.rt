@@ -28,7 +28,8 @@ impl Model for Scope {
 
 // Makes room for so many counts: a new one is 0.
 fn make_places(counts: &mut Vec<usize>, places: usize) -> Result<(), AllocError>
-    ensures same { (place : ℕ) → slice_index_or counts.new.items place 0 ≡ slice_index_or counts.old.items place 0 }
+    ensures same { (place : ℕ) → slice_index_or counts.new.items place 0 ≡ slice_index_or
+        counts.old.items place 0 }
     ensures room { OnOk result (places ≤ vec_len counts.new) }
 {
     if counts.len() < places {

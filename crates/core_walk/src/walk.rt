@@ -7,7 +7,7 @@ ghost use Rattle.core_walk.specs.Walk.{Walks, context_of, form_at};
 use crate::cases::needs_of_case;
 use crate::check::Check;
 use crate::patterns::bind_patterns;
-use crate::position::{Position, Spot};
+use crate::position::{Demand, Position};
 use crate::stop::{Found, Stop};
 use core_tables::pass_patterns;
 use hy_core::{Clause, Expr, Function, Module, Pattern, Place};
@@ -26,12 +26,13 @@ fn visit<C: Check>(
     check: &C,
     names: &Module,
     at: &mut Position,
-    spot: Spot,
+    demand: Demand,
     expr: &Expr,
 ) -> Result<(), Stop>
-    ensures { Walks result (form_at (C.forms check.now) names.now) (node (AnExpr expr.now) (context_of at.old spot) ∷ []) at.old at.new }
+    ensures { Walks result (form_at (C.forms check.now) names.now)
+        (node (AnExpr expr.now) (context_of at.old demand) ∷ []) at.old at.new }
 {
-    if let Some(form) = check.expr_fault(names, expr, at, spot)? {
+    if let Some(form) = check.expr_fault(names, expr, at, demand)? {
         return Err(Stop::Found(Found {
             node: at.node,
             form,
@@ -46,10 +47,11 @@ fn visit_patterns<C: Check>(
     check: &C,
     names: &Module,
     at: &mut Position,
-    spot: Spot,
+    demand: Demand,
     patterns: &[Pattern],
 ) -> Result<(), Stop>
-    ensures { Walks result (form_at (C.forms check.now) names.now) (pattern_nodes patterns.now (context_of at.old spot)) at.old at.new }
+    ensures { Walks result (form_at (C.forms check.now) names.now)
+        (pattern_nodes patterns.now (context_of at.old demand)) at.old at.new }
 {
     if patterns.is_empty() {
         return Ok(());
@@ -71,19 +73,21 @@ pub fn is_nil(expr: &Expr) -> bool
     matches!(expr, Expr::Nil)
 }
 
-/// Looks at the nodes of an expression, from the next one on, up to the first at which the check fails.
+/// Looks at the nodes of an expression, from the next one on, up to the first at which the check
+/// fails.
 #[cycle(walk)]
 pub fn walk_expr<C: Check>(
     check: &C,
     names: &Module,
     at: &mut Position,
-    spot: Spot,
+    demand: Demand,
     expr: &Expr,
 ) -> Result<(), Stop>
-    ensures { Walks result (form_at (C.forms check.now) names.now) (nodes expr.now (context_of at.old spot)) at.old at.new }
+    ensures { Walks result (form_at (C.forms check.now) names.now)
+        (nodes expr.now (context_of at.old demand)) at.old at.new }
 {
-    visit(check, names, at, spot, expr)?;
-    walk_parts(check, names, at, spot, expr)
+    visit(check, names, at, demand, expr)?;
+    walk_parts(check, names, at, demand, expr)
 }
 
 // Looks at the nodes of an expression behind its own.
@@ -92,64 +96,65 @@ fn walk_parts<C: Check>(
     check: &C,
     names: &Module,
     at: &mut Position,
-    spot: Spot,
+    demand: Demand,
     expr: &Expr,
 ) -> Result<(), Stop>
-    ensures { Walks result (form_at (C.forms check.now) names.now) (part_nodes expr.now (context_of at.old spot)) at.old at.new }
+    ensures { Walks result (form_at (C.forms check.now) names.now)
+        (part_nodes expr.now (context_of at.old demand)) at.old at.new }
 {
     match expr {
         Expr::Int(_) | Expr::Atom(_) | Expr::Nil | Expr::Str(_) | Expr::Var(_) | Expr::Name(_) => {
             Ok(())
         }
-        Expr::Tuple { site: _, parts } => walk_each(check, names, at, spot, parts.as_slice()),
+        Expr::Tuple { site: _, parts } => walk_each(check, names, at, demand, parts.as_slice()),
         Expr::List {
             site: _,
             heads,
             tail,
         } => {
-            walk_each(check, names, at, spot, heads.as_slice())?;
-            walk_end(check, names, at, spot, tail.get())
+            walk_each(check, names, at, demand, heads.as_slice())?;
+            walk_end(check, names, at, demand, tail.get())
         }
-        Expr::Values(parts) => walk_each(check, names, at, spot, parts.as_slice()),
+        Expr::Values(parts) => walk_each(check, names, at, demand, parts.as_slice()),
         Expr::Let { vars, value, body } => {
-            walk_values(check, names, at, spot, vars.len(), value.get())?;
-            walk_under(check, names, at, spot, vars.as_slice(), body.get())
+            walk_values(check, names, at, demand, vars.len(), value.get())?;
+            walk_under(check, names, at, demand, vars.as_slice(), body.get())
         }
         Expr::Do { first, second } => {
-            walk_values(check, names, at, spot, 1, first.get())?;
-            walk_inside(check, names, at, spot, second.get())
+            walk_values(check, names, at, demand, 1, first.get())?;
+            walk_inside(check, names, at, demand, second.get())
         }
         Expr::Case { value, clauses } => {
             let needs = needs_of_case(clauses.as_slice());
-            walk_values(check, names, at, spot, needs, value.get())?;
-            walk_clauses(check, names, at, spot, clauses.as_slice())
+            walk_values(check, names, at, demand, needs, value.get())?;
+            walk_clauses(check, names, at, demand, clauses.as_slice())
         }
         Expr::Letrec { functions, body } => {
             let depth = at.locals.len();
             at.locals.define(functions.as_slice())?;
-            walk_functions(check, names, at, spot, functions.as_slice())?;
-            walk_inside(check, names, at, spot, body.get())?;
+            walk_functions(check, names, at, demand, functions.as_slice())?;
+            walk_inside(check, names, at, demand, body.get())?;
             at.locals.leave(depth);
             Ok(())
         }
         Expr::Apply { what, args } => {
-            walk_place(check, names, at, spot, Place::Applied, what.get())?;
-            walk_each(check, names, at, spot, args.as_slice())
+            walk_place(check, names, at, demand, Place::Applied, what.get())?;
+            walk_each(check, names, at, demand, args.as_slice())
         }
         Expr::Call { module, name, args } => {
-            walk_values(check, names, at, spot, 1, module.get())?;
-            walk_values(check, names, at, spot, 1, name.get())?;
-            walk_each(check, names, at, spot, args.as_slice())
+            walk_values(check, names, at, demand, 1, module.get())?;
+            walk_values(check, names, at, demand, 1, name.get())?;
+            walk_each(check, names, at, demand, args.as_slice())
         }
-        Expr::Primop { name: _, args } => walk_each(check, names, at, spot, args.as_slice()),
+        Expr::Primop { name: _, args } => walk_each(check, names, at, demand, args.as_slice()),
         Expr::Receive {
             clauses,
             timeout,
             body,
         } => {
-            walk_clauses(check, names, at, spot, clauses.as_slice())?;
-            walk_place(check, names, at, spot, Place::Timeout, timeout.get())?;
-            walk_inside(check, names, at, spot, body.get())
+            walk_clauses(check, names, at, demand, clauses.as_slice())?;
+            walk_place(check, names, at, demand, Place::Timeout, timeout.get())?;
+            walk_inside(check, names, at, demand, body.get())
         }
         Expr::Try {
             value,
@@ -158,24 +163,24 @@ fn walk_parts<C: Check>(
             catch_vars,
             catch_body,
         } => {
-            walk_values(check, names, at, spot, vars.len(), value.get())?;
-            walk_under(check, names, at, spot, vars.as_slice(), body.get())?;
+            walk_values(check, names, at, demand, vars.len(), value.get())?;
+            walk_under(check, names, at, demand, vars.as_slice(), body.get())?;
             walk_under(
                 check,
                 names,
                 at,
-                spot,
+                demand,
                 catch_vars.as_slice(),
                 catch_body.get(),
             )
         }
-        Expr::Catch(body) => walk_values(check, names, at, spot, 1, body.get()),
+        Expr::Catch(body) => walk_values(check, names, at, demand, 1, body.get()),
         Expr::Fun { params, body } => {
             walk_under(
                 check,
                 names,
                 at,
-                spot.for_values(1),
+                demand.for_values(1),
                 params.as_slice(),
                 body.get(),
             )
@@ -189,13 +194,14 @@ fn walk_values<C: Check>(
     check: &C,
     names: &Module,
     at: &mut Position,
-    spot: Spot,
+    demand: Demand,
     needs: usize,
     expr: &Expr,
 ) -> Result<(), Stop>
-    ensures { Walks result (form_at (C.forms check.now) names.now) (nodes expr.now (for_values needs (context_of at.old spot))) at.old at.new }
+    ensures { Walks result (form_at (C.forms check.now) names.now)
+        (nodes expr.now (for_values needs (context_of at.old demand))) at.old at.new }
 {
-    walk_expr(check, names, at, spot.for_values(needs), expr)
+    walk_expr(check, names, at, demand.for_values(needs), expr)
 }
 
 // Looks at the nodes of an expression at a place of its own kind.
@@ -204,13 +210,14 @@ fn walk_place<C: Check>(
     check: &C,
     names: &Module,
     at: &mut Position,
-    spot: Spot,
+    demand: Demand,
     place: Place,
     expr: &Expr,
 ) -> Result<(), Stop>
-    ensures { Walks result (form_at (C.forms check.now) names.now) (nodes expr.now (at_place place (context_of at.old spot))) at.old at.new }
+    ensures { Walks result (form_at (C.forms check.now) names.now)
+        (nodes expr.now (at_place place (context_of at.old demand))) at.old at.new }
 {
-    walk_expr(check, names, at, spot.at_place(place), expr)
+    walk_expr(check, names, at, demand.at_place(place), expr)
 }
 
 // Looks at the nodes of an expression in the place of the whole.
@@ -219,12 +226,13 @@ fn walk_inside<C: Check>(
     check: &C,
     names: &Module,
     at: &mut Position,
-    spot: Spot,
+    demand: Demand,
     expr: &Expr,
 ) -> Result<(), Stop>
-    ensures { Walks result (form_at (C.forms check.now) names.now) (nodes expr.now (inside (context_of at.old spot))) at.old at.new }
+    ensures { Walks result (form_at (C.forms check.now) names.now)
+        (nodes expr.now (inside (context_of at.old demand))) at.old at.new }
 {
-    walk_expr(check, names, at, spot.inside(), expr)
+    walk_expr(check, names, at, demand.inside(), expr)
 }
 
 // Looks at the nodes of expressions that need one value each.
@@ -233,13 +241,14 @@ fn walk_each<C: Check>(
     check: &C,
     names: &Module,
     at: &mut Position,
-    spot: Spot,
+    demand: Demand,
     exprs: &[Expr],
 ) -> Result<(), Stop>
-    ensures { Walks result (form_at (C.forms check.now) names.now) (each_node nodes exprs.now (for_one (context_of at.old spot))) at.old at.new }
+    ensures { Walks result (form_at (C.forms check.now) names.now)
+        (each_node nodes exprs.now (for_one (context_of at.old demand))) at.old at.new }
 {
     for expr in exprs {
-        walk_values(check, names, at, spot, 1, expr)?;
+        walk_values(check, names, at, demand, 1, expr)?;
     }
     Ok(())
 }
@@ -250,15 +259,16 @@ fn walk_end<C: Check>(
     check: &C,
     names: &Module,
     at: &mut Position,
-    spot: Spot,
+    demand: Demand,
     tail: &Expr,
 ) -> Result<(), Stop>
-    ensures { Walks result (form_at (C.forms check.now) names.now) (end_nodes tail.now (for_one (context_of at.old spot))) at.old at.new }
+    ensures { Walks result (form_at (C.forms check.now) names.now)
+        (end_nodes tail.now (for_one (context_of at.old demand))) at.old at.new }
 {
     if is_nil(tail) {
         Ok(())
     } else {
-        walk_values(check, names, at, spot, 1, tail)
+        walk_values(check, names, at, demand, 1, tail)
     }
 }
 
@@ -268,15 +278,16 @@ fn walk_under<C: Check>(
     check: &C,
     names: &Module,
     at: &mut Position,
-    spot: Spot,
+    demand: Demand,
     variables: &[u32],
     expr: &Expr,
 ) -> Result<(), Stop>
-    ensures { Walks result (form_at (C.forms check.now) names.now) (nodes expr.now (binding variables.now (context_of at.old spot))) at.old at.new }
+    ensures { Walks result (form_at (C.forms check.now) names.now)
+        (nodes expr.now (binding variables.now (context_of at.old demand))) at.old at.new }
 {
     let depth = at.scope.len();
     at.scope.bind_all(variables)?;
-    walk_inside(check, names, at, spot, expr)?;
+    walk_inside(check, names, at, demand, expr)?;
     at.scope.leave(depth);
     Ok(())
 }
@@ -287,13 +298,14 @@ fn walk_clauses<C: Check>(
     check: &C,
     names: &Module,
     at: &mut Position,
-    spot: Spot,
+    demand: Demand,
     clauses: &[Clause],
 ) -> Result<(), Stop>
-    ensures { Walks result (form_at (C.forms check.now) names.now) (each_node clause_nodes clauses.now (inside (context_of at.old spot))) at.old at.new }
+    ensures { Walks result (form_at (C.forms check.now) names.now)
+        (each_node clause_nodes clauses.now (inside (context_of at.old demand))) at.old at.new }
 {
     for clause in clauses {
-        walk_clause(check, names, at, spot.inside(), clause)?;
+        walk_clause(check, names, at, demand.inside(), clause)?;
     }
     Ok(())
 }
@@ -304,16 +316,17 @@ fn walk_clause<C: Check>(
     check: &C,
     names: &Module,
     at: &mut Position,
-    spot: Spot,
+    demand: Demand,
     clause: &Clause,
 ) -> Result<(), Stop>
-    ensures { Walks result (form_at (C.forms check.now) names.now) (clause_nodes clause.now (context_of at.old spot)) at.old at.new }
+    ensures { Walks result (form_at (C.forms check.now) names.now)
+        (clause_nodes clause.now (context_of at.old demand)) at.old at.new }
 {
-    visit_patterns(check, names, at, spot, clause.patterns.as_slice())?;
+    visit_patterns(check, names, at, demand, clause.patterns.as_slice())?;
     let depth = at.scope.len();
     bind_patterns(&mut at.scope, clause.patterns.as_slice())?;
-    walk_expr(check, names, at, spot.guarding(), &clause.guard)?;
-    walk_inside(check, names, at, spot, &clause.body)?;
+    walk_expr(check, names, at, demand.guarding(), &clause.guard)?;
+    walk_inside(check, names, at, demand, &clause.body)?;
     at.scope.leave(depth);
     Ok(())
 }
@@ -324,17 +337,19 @@ fn walk_functions<C: Check>(
     check: &C,
     names: &Module,
     at: &mut Position,
-    spot: Spot,
+    demand: Demand,
     functions: &[Function],
 ) -> Result<(), Stop>
-    ensures { Walks result (form_at (C.forms check.now) names.now) (each_node definition_nodes functions.now (inside (context_of at.old spot))) at.old at.new }
+    ensures { Walks result (form_at (C.forms check.now) names.now)
+        (each_node definition_nodes functions.now (inside (context_of at.old demand))) at.old
+        at.new }
 {
     for function in functions {
         walk_under(
             check,
             names,
             at,
-            spot.for_values(1),
+            demand.for_values(1),
             function.params.as_slice(),
             &function.body,
         )?;

@@ -1,5 +1,5 @@
 use Rattle.std.proofs.Common.{◌≡◌, drop}
-use Rattle.core_lint.specs.GreatArity.{any_is_great}
+use Rattle.core_lint.specs.code.GreatArity.{any_is_great}
 use Rattle.core_lint.proofs.great_arity.any_is_great.Given as goal
 
 abbrev pub invariant-loop-function : goal.invariant-loop-function

@@ -1,5 +1,5 @@
 use Rattle.std.proofs.Common.{inl, refl, sym, subst}
-use Rattle.core_lint.specs.GreatArity.{HasGreat}
+use Rattle.core_lint.specs.code.GreatArity.{HasGreat}
 use Rattle.core_lint.proofs.GreatExact.{great_in, prelude_decides}
 use Rattle.core_lint.proofs.great_arity.has_great_arity.Goals as goal
 

@@ -1,5 +1,5 @@
 use Rattle.std.proofs.Common.{◌≤◌}
-use Rattle.core_lint.specs.InOrder.{HasNoneBelow}
+use Rattle.core_lint.specs.code.InOrder.{HasNoneBelow}
 use Rattle.core_lint.proofs.kinds.first_in_kinds.Given as goal
 
 abbrev pub invariant-loop-kind : goal.invariant-loop-kind

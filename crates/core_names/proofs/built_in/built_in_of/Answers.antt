@@ -1,6 +1,6 @@
 use Rattle.std.proofs.Common.{◌≡◌, true, false, if◌then◌else◌, None, codes, sym, ap, ◌∙◌}
 use Rattle.std.specs.Str.{bytes_eq}
-use Rattle.core_names.specs.Rows.{built_in_named}
+use Rattle.core_names.specs.code.Rows.{built_in_named}
 use Rattle.core_names.proofs.RowLemmas.{by_rows}
 use Rattle.core_names.proofs.built_in.built_in_of.Goals as goal
 

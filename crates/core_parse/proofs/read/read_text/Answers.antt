@@ -1,6 +1,6 @@
 use Rattle.std.proofs.Common.{◌≤◌, ◌^◌, List, length, subst, arith}
 use Rattle.hy_core.specs.declared.token.Lexeme.{Lexeme}
-use Rattle.core_parse.specs.Answers.{of_tokens, GivesTokens}
+use Rattle.core_parse.specs.code.Verdicts.{of_tokens, GivesTokens}
 use Rattle.core_parse.proofs.read.read_text.Goals as goal
 
 pub returns : goal.returns

@@ -1,6 +1,6 @@
 use Rattle.std.proofs.Common.{◌≡◌, drop}
 use Rattle.hy_core.specs.Reading.{tokens_in}
-use Rattle.core_parse.specs.Machine.{run, start}
+use Rattle.core_parse.specs.code.Pushdown.{run, start}
 use Rattle.core_parse.proofs.run.read_tokens.Given as goal
 
 abbrev pub invariant-loop-index : goal.invariant-loop-index

@@ -1,5 +1,5 @@
 use Rattle.std.proofs.Common.{◌≡◌, length}
-use Rattle.core_parse.specs.Machine.{settled}
+use Rattle.core_parse.specs.code.Pushdown.{settled}
 use Rattle.core_parse.proofs.settle.next_goal.Given as goal
 
 abbrev pub invariant-loop-goal : goal.invariant-loop-goal

@@ -1,5 +1,5 @@
 use Rattle.std.proofs.Common.{◌≡◌, ◌++◌, drop}
-use Rattle.core_scan.specs.Scan.{scan}
+use Rattle.core_scan.specs.code.Scan.{scan}
 use Rattle.core_scan.specs.declared.state.State.TheVariants.{Gap}
 use Rattle.core_scan.proofs.scan.lex.Given as goal
 

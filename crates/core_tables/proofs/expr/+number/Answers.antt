@@ -2,11 +2,11 @@ use Rattle.std.proofs.Common.{rules, w64, SFits, [], ◌∷◌, refl, sym, ap, �
 use Rattle.std.proofs.lemmas.Int.{to_z-of_z}
 use Rattle.std.proofs.lemmas.List.{take_all}
 use Rattle.hy_core.specs.Counting.{made, next, at_node}
-use Rattle.hy_core.specs.Numbered.{numbered}
+use Rattle.hy_core.specs.Numbered.{numbered_tree}
 use Rattle.hy_core.specs.declared.info.SiteKind.TheVariants as kind
 use Rattle.hy_core.specs.declared.tree.Expr.TheVariants as e
 use Rattle.hy_core.specs.declared.tree.Expr.TheViews.{outs-Int, outs-Atom, outs-Nil, outs-Str, outs-Var, outs-Name, outs-Tuple, outs-Values, outs-Let, outs-Do, outs-Case, outs-Letrec, outs-Apply, outs-Call, outs-Primop, outs-Receive, outs-Try, outs-Catch, outs-Fun}
-use Rattle.core_tables.specs.NumberedParts.{each, numbered_each, numbered_clause, numbered_definition}
+use Rattle.core_tables.specs.code.NumberedParts.{each, numbered_each, numbered_clause, numbered_definition}
 use Rattle.core_tables.proofs.CallLemmas.{called-does}
 use Rattle.core_tables.proofs.FormLemmas.{call-made, clause-made, definition-made, leaf-made, list-made, spawned_list-made, spawned_other-made, spawn_args-made, three_items}
 use Rattle.core_tables.proofs.CountingLemmas.{each-take, of_one, of_two, of_three, then}
@@ -98,7 +98,7 @@ number_expr-returns-in_ok-vars-in-Let _ c =
     let n = c.args.numbers.now in
     by_form t m c.in-Let.is (outs-Let _ _ _) k n
     (ap (λ vars. (e.Let vars c.in_ok-value-in-Let.value c.in_ok-body-in-Let.body, c.number_boxed-in-Let.new.numbers)) c.in_ok-vars-in-Let.ensures
-    ∙ of_two (numbered t m c.in-Let.value) (numbered t m c.in-Let.body) (e.Let c.in-Let.vars) k c.in_ok-pass-in-Let.ensures c.in_ok-value-in-Let.ensures c.in_ok-body-in-Let.ensures)
+    ∙ of_two (numbered_tree t m c.in-Let.value) (numbered_tree t m c.in-Let.body) (e.Let c.in-Let.vars) k c.in_ok-pass-in-Let.ensures c.in_ok-value-in-Let.ensures c.in_ok-body-in-Let.ensures)
 
 pub number_expr-returns-in_ok-second-in-Do : goal.number_expr-returns-in_ok-second-in-Do
 number_expr-returns-in_ok-second-in-Do _ c =
@@ -107,7 +107,7 @@ number_expr-returns-in_ok-second-in-Do _ c =
     let k = c.args.function in
     let n = c.args.numbers.now in
     by_form t m c.in-Do.is (outs-Do _ _) k n
-    (of_two (numbered t m c.in-Do.first) (numbered t m c.in-Do.second) e.Do k c.in_ok-pass-in-Do.ensures c.in_ok-first-in-Do.ensures c.in_ok-second-in-Do.ensures)
+    (of_two (numbered_tree t m c.in-Do.first) (numbered_tree t m c.in-Do.second) e.Do k c.in_ok-pass-in-Do.ensures c.in_ok-first-in-Do.ensures c.in_ok-second-in-Do.ensures)
 
 pub number_expr-returns-in_ok-clauses-in-Case : goal.number_expr-returns-in_ok-clauses-in-Case
 number_expr-returns-in_ok-clauses-in-Case _ c =
@@ -116,7 +116,7 @@ number_expr-returns-in_ok-clauses-in-Case _ c =
     let k = c.args.function in
     let n = c.args.numbers.now in
     by_form t m c.in-Case.is (outs-Case _ _) k n
-    (of_two (numbered t m c.in-Case.value) (each (numbered_clause t m) c.in-Case.clauses) e.Case k c.in_ok-pass-in-Case.ensures c.in_ok-value-in-Case.ensures c.in_ok-clauses-in-Case.ensures)
+    (of_two (numbered_tree t m c.in-Case.value) (each (numbered_clause t m) c.in-Case.clauses) e.Case k c.in_ok-pass-in-Case.ensures c.in_ok-value-in-Case.ensures c.in_ok-clauses-in-Case.ensures)
 
 pub number_expr-returns-in_ok-body-in-Letrec : goal.number_expr-returns-in_ok-body-in-Letrec
 number_expr-returns-in_ok-body-in-Letrec _ c =
@@ -125,7 +125,7 @@ number_expr-returns-in_ok-body-in-Letrec _ c =
     let k = c.args.function in
     let n = c.args.numbers.now in
     by_form t m c.in-Letrec.is (outs-Letrec _ _) k n
-    (of_two (each (numbered_definition t m) c.in-Letrec.functions) (numbered t m c.in-Letrec.body) e.Letrec k c.in_ok-pass-in-Letrec.ensures (c.in_ok-functions-in-Letrec.ensures k) c.in_ok-body-in-Letrec.ensures)
+    (of_two (each (numbered_definition t m) c.in-Letrec.functions) (numbered_tree t m c.in-Letrec.body) e.Letrec k c.in_ok-pass-in-Letrec.ensures (c.in_ok-functions-in-Letrec.ensures k) c.in_ok-body-in-Letrec.ensures)
 
 pub number_expr-returns-in_ok-args-in-Apply : goal.number_expr-returns-in_ok-args-in-Apply
 number_expr-returns-in_ok-args-in-Apply _ c =
@@ -134,7 +134,7 @@ number_expr-returns-in_ok-args-in-Apply _ c =
     let k = c.args.function in
     let n = c.args.numbers.now in
     by_form t m c.in-Apply.is (outs-Apply _ _) k n
-    (of_two (numbered t m c.in-Apply.what) (numbered_each t m c.in-Apply.args) e.Apply k c.in_ok-pass-in-Apply.ensures c.in_ok-what-in-Apply.ensures c.in_ok-args-in-Apply.ensures)
+    (of_two (numbered_tree t m c.in-Apply.what) (numbered_each t m c.in-Apply.args) e.Apply k c.in_ok-pass-in-Apply.ensures c.in_ok-what-in-Apply.ensures c.in_ok-args-in-Apply.ensures)
 
 pub number_expr-returns-in_ok-args-in-Call : goal.number_expr-returns-in_ok-args-in-Call
 number_expr-returns-in_ok-args-in-Call _ c =
@@ -163,7 +163,7 @@ number_expr-returns-in_ok-body-in-Receive _ c =
     let k = c.args.function in
     let n = c.args.numbers.now in
     by_form t m c.in-Receive.is (outs-Receive _ _ _) k n
-    (of_three (each (numbered_clause t m) c.in-Receive.clauses) (numbered t m c.in-Receive.timeout) (numbered t m c.in-Receive.body) e.Receive k c.in_ok-pass-in-Receive.ensures c.in_ok-clauses-in-Receive.ensures c.in_ok-timeout-in-Receive.ensures c.in_ok-body-in-Receive.ensures)
+    (of_three (each (numbered_clause t m) c.in-Receive.clauses) (numbered_tree t m c.in-Receive.timeout) (numbered_tree t m c.in-Receive.body) e.Receive k c.in_ok-pass-in-Receive.ensures c.in_ok-clauses-in-Receive.ensures c.in_ok-timeout-in-Receive.ensures c.in_ok-body-in-Receive.ensures)
 
 pub number_expr-returns-in_ok-catch_vars-in-Try : goal.number_expr-returns-in_ok-catch_vars-in-Try
 number_expr-returns-in_ok-catch_vars-in-Try _ c =
@@ -177,7 +177,7 @@ number_expr-returns-in_ok-catch_vars-in-Try _ c =
     let after = c.number_boxed-in-Try-3.new.numbers in
     by_form t m c.in-Try.is (outs-Try _ _ _ _ _) k n
     ((λ i. (e.Try value (c.in_ok-vars-in-Try.ensures i) body (c.in_ok-catch_vars-in-Try.ensures i) catch_body, after))
-    ∙ of_three (numbered t m c.in-Try.value) (numbered t m c.in-Try.body) (numbered t m c.in-Try.catch_body) (λ v b w. e.Try v c.in-Try.vars b c.in-Try.catch_vars w) k c.in_ok-pass-in-Try.ensures c.in_ok-value-in-Try.ensures c.in_ok-body-in-Try.ensures c.in_ok-catch_body-in-Try.ensures)
+    ∙ of_three (numbered_tree t m c.in-Try.value) (numbered_tree t m c.in-Try.body) (numbered_tree t m c.in-Try.catch_body) (λ v b w. e.Try v c.in-Try.vars b c.in-Try.catch_vars w) k c.in_ok-pass-in-Try.ensures c.in_ok-value-in-Try.ensures c.in_ok-body-in-Try.ensures c.in_ok-catch_body-in-Try.ensures)
 
 pub number_expr-returns-in_ok-body-in-Catch : goal.number_expr-returns-in_ok-body-in-Catch
 number_expr-returns-in_ok-body-in-Catch _ c =
@@ -186,7 +186,7 @@ number_expr-returns-in_ok-body-in-Catch _ c =
     let k = c.args.function in
     let n = c.args.numbers.now in
     by_form t m c.in-Catch.is (outs-Catch _) k n
-    (of_one (numbered t m c.in-Catch.body) e.Catch k c.in_ok-pass-in-Catch.ensures c.in_ok-body-in-Catch.ensures)
+    (of_one (numbered_tree t m c.in-Catch.body) e.Catch k c.in_ok-pass-in-Catch.ensures c.in_ok-body-in-Catch.ensures)
 
 pub number_expr-returns-in_ok-params-in-Fun : goal.number_expr-returns-in_ok-params-in-Fun
 number_expr-returns-in_ok-params-in-Fun _ c =
@@ -196,7 +196,7 @@ number_expr-returns-in_ok-params-in-Fun _ c =
     let n = c.args.numbers.now in
     by_form t m c.in-Fun.is (outs-Fun _ _) k n
     (ap (λ params. (e.Fun params c.in_ok-body-in-Fun.body, c.number_boxed-in-Fun.new.numbers)) c.in_ok-params-in-Fun.ensures
-    ∙ of_one (numbered t m c.in-Fun.body) (e.Fun c.in-Fun.params) k c.in_ok-pass-in-Fun.ensures c.in_ok-body-in-Fun.ensures)
+    ∙ of_one (numbered_tree t m c.in-Fun.body) (e.Fun c.in-Fun.params) k c.in_ok-pass-in-Fun.ensures c.in_ok-body-in-Fun.ensures)
 
 pub number_definitions-returns : goal.number_definitions-returns
 number_definitions-returns _ c =
@@ -211,8 +211,8 @@ number_spawn_args-returns-in_ok-push-3 _ c =
     let m = c.args.names.now in
     let k = c.args.function in
     let n = c.args.numbers.now in
-    let args = sym c.as_slice.ensures ∙ three_items c.as_slice.result.now _ _ _ c.in-len3.len_at_least c.in-len3.len_below c.place-item.is c.name-item.is c.list-item.is in
-    spawn_args-made t m _ c.place-item.result c.name-item.result c.list-item.result k n _ _ _ _ _ _ _ _ _ _ args c.new-trees.ensures c.in_ok-number_expr.ensures c.in_ok-push.ensures.ok c.in_ok-number_expr-2.ensures c.in_ok-push-2.ensures.ok c.in_ok-number_spawned.ensures c.in_ok-push-3.ensures.ok
+    let args = sym c.as_slice.ensures ∙ three_items c.as_slice.result.now _ _ _ c.in-len3.len_at_least c.in-len3.len_below c.module-item.is c.name-item.is c.list-item.is in
+    spawn_args-made t m _ c.module-item.result c.name-item.result c.list-item.result k n _ _ _ _ _ _ _ _ _ _ args c.new-trees.ensures c.in_ok-number_expr.ensures c.in_ok-push.ensures.ok c.in_ok-number_expr-2.ensures c.in_ok-push-2.ensures.ok c.in_ok-number_spawned.ensures c.in_ok-push-3.ensures.ok
 
 pub number_spawned-returns-in_ok-tail : goal.number_spawned-returns-in_ok-tail
 number_spawned-returns-in_ok-tail _ c =
@@ -251,7 +251,7 @@ number_each-loop-expr-preserved _ c =
     let m = c.args.names.now in
     let k = c.args.function in
     let n = c.args.numbers.now in
-    each-take (numbered t m) c.as_slice-expr-items.result.now c.loop-expr.expr-index c.expr-item.result k n c.loop-expr-test.true c.expr-item.is c.loop-expr.invariant c.in_ok-number_expr.ensures c.in_ok-push.ensures.ok
+    each-take (numbered_tree t m) c.as_slice-expr-items.result.now c.loop-expr.expr-index c.expr-item.result k n c.loop-expr-test.true c.expr-item.is c.loop-expr.invariant c.in_ok-number_expr.ensures c.in_ok-push.ensures.ok
 
 pub number_clauses-loop-clause-preserved : goal.number_clauses-loop-clause-preserved
 number_clauses-loop-clause-preserved _ c =

@@ -1,5 +1,5 @@
 use Rattle.std.proofs.Common.{◌≡◌, ℕ, take}
-use Rattle.core_tables.specs.NumberedParts.{each, numbered_each, numbered_clause, numbered_definition}
+use Rattle.core_tables.specs.code.NumberedParts.{each, numbered_each, numbered_clause, numbered_definition}
 use Rattle.core_tables.proofs.expr.+number.Given as goal
 
 abbrev pub invariant-number_each-loop-expr : goal.invariant-number_each-loop-expr

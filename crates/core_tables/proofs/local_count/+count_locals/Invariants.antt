@@ -1,5 +1,5 @@
 use Rattle.std.proofs.Common.{◌≡◌, ◌+◌, drop, map, sum}
-use Rattle.core_tables.specs.LocalCount.{local_count, clause_count, definition_count}
+use Rattle.core_tables.specs.code.LocalCount.{local_count, clause_count, definition_count}
 use Rattle.core_tables.proofs.local_count.+count_locals.Given as goal
 
 abbrev pub invariant-count_each-loop-expr : goal.invariant-count_each-loop-expr

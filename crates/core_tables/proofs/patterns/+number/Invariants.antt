@@ -1,5 +1,5 @@
 use Rattle.std.proofs.Common.{◌≡◌, map, take}
-use Rattle.hy_core.specs.Numbered.{numbered_pattern}
+use Rattle.core_tables.specs.code.NumberedParts.{numbered_pattern}
 use Rattle.core_tables.proofs.patterns.+number.Given as goal
 
 abbrev pub invariant-number_patterns-loop-pattern : goal.invariant-number_patterns-loop-pattern

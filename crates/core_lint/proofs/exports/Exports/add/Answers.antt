@@ -1,6 +1,6 @@
 use Rattle.std.proofs.Common.{◌≡◌, ◌<◌, Some, length, sym, ap, ◌∙◌, ◌||◌, subst}
 use Rattle.hy_terms.specs.Naming.{place_in}
-use Rattle.core_lint.specs.Exports.{ExportTable, RowsWithin, has_export, is_export}
+use Rattle.core_lint.specs.code.Exports.{ExportTable, RowsWithin, has_export, is_export}
 use Rattle.core_lint.proofs.ExportLemmas.{has-added, place-named, within-added, within-named}
 use Rattle.core_lint.proofs.exports.Exports.add.Goals as goal
 

@@ -2,7 +2,7 @@ use Rattle.std.proofs.Common.{◌≡◌, ◌||◌, ◌&&◌, drop, List, ℕ, So
 use Rattle.std.specs.Str.{bytes_eq}
 use Rattle.hy_terms.specs.Naming.{place_in}
 use Rattle.hy_core.specs.NameFaults.{module_name}
-use Rattle.core_lint.specs.Exports.{exports_name, has_export, module_exports}
+use Rattle.core_lint.specs.code.Exports.{exports_name, has_export, module_exports}
 use Rattle.core_lint.proofs.exports.Exports.add_module.Given as goal
 
 abbrev pub invariant-loop-export : goal.invariant-loop-export

@@ -1,5 +1,5 @@
 use Rattle.std.proofs.Common.{◌≡◌, ◌||◌, drop, List, ℕ}
-use Rattle.core_lint.specs.Exports.{has_export, is_exported}
+use Rattle.core_lint.specs.code.Exports.{has_export, is_exported}
 use Rattle.core_lint.proofs.exports.Exports.add_modules.Given as goal
 
 abbrev pub invariant-loop-names : goal.invariant-loop-names

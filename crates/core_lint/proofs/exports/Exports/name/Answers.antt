@@ -1,5 +1,5 @@
 use Rattle.std.proofs.Common.{ap, ◌∙◌}
-use Rattle.core_lint.specs.Exports.{ExportTable, has_export}
+use Rattle.core_lint.specs.code.Exports.{ExportTable, has_export}
 use Rattle.core_lint.proofs.ExportLemmas.{has-named, named-place, within-named}
 use Rattle.core_lint.proofs.exports.Exports.name.Goals as goal
 

@@ -1,5 +1,5 @@
 use Rattle.std.proofs.Common.{◌≡◌, ◌||◌, sym, ap, ◌∙◌}
-use Rattle.core_lint.specs.Exports.{has_export, is_exported}
+use Rattle.core_lint.specs.code.Exports.{has_export, is_exported}
 use Rattle.core_lint.proofs.ExportedLemmas.{exported-from, exported-to}
 use Rattle.core_lint.proofs.exports.Exports.of.Goals as goal
 

@@ -1,6 +1,0 @@
-use Rattle.std.proofs.Common.{◌≡◌, drop, codes}
-use Rattle.core_lint.specs.Exports.{exports_name}
-use Rattle.core_lint.proofs.main_export.exports_main.Given as goal
-
-abbrev pub invariant-loop-export : goal.invariant-loop-export
-invariant-loop-export l = exports_name l.names (drop l.export-index l.names.exports) (codes "main") 0 ≡ exports_name l.names l.names.exports (codes "main") 0

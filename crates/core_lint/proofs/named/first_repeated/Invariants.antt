@@ -1,6 +1,0 @@
-use Rattle.std.proofs.Common.{◌≡◌, drop}
-use Rattle.core_lint.specs.Named.{first_repeated}
-use Rattle.core_lint.proofs.named.first_repeated.Given as goal
-
-abbrev pub invariant-loop-i : goal.invariant-loop-i
-invariant-loop-i l = first_repeated l.program l.i (drop l.i l.program.given) ≡ first_repeated l.program 0 l.program.given

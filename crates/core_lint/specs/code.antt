@@ -1,0 +1,17 @@
+pub mod Earlier
+pub mod Exports
+pub mod FirstPlace
+pub mod ForbiddenForms
+pub mod GreatArity
+pub mod GuardForm
+pub mod Guards
+pub mod InOrder
+pub mod MissingMain
+pub mod OnExprs
+pub mod RepeatedFunctions
+pub mod RepeatedModules
+pub mod RepeatedVariables
+pub mod Sizes
+pub mod UnboundVariables
+pub mod UnknownFunctions
+pub mod WrongValues

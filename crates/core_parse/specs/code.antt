@@ -1,0 +1,5 @@
+pub mod Pushdown
+pub mod Steps
+pub mod Tops
+pub mod Trees
+pub mod Verdicts

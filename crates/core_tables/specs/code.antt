@@ -1,0 +1,4 @@
+pub mod CallParts
+pub mod LocalCount
+pub mod NumberedModules
+pub mod NumberedParts
