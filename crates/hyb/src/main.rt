@@ -33,8 +33,8 @@ fn main(rt: HostRuntime) -> ExitCode {
     ExitCode::from(finish.status)
 }
 
-/// The words behind the program's name. Where one of them isn't text they can't be those of the
-/// command line, and none is given.
+// The words behind the program's name. Where one of them isn't text they can't be those of the
+// command line, and none is given.
 fn command_line<R: Env + AllocGlobal>(rt: &R, alloc: Global) -> Result<Words, Memory> {
     let mut words = Words::new(alloc);
     match env::args(rt) {
@@ -51,9 +51,10 @@ fn command_line<R: Env + AllocGlobal>(rt: &R, alloc: Global) -> Result<Words, Me
     }
 }
 
-/// The line for a fault of these words.
+// The line for a fault of these words.
 fn complaint(alloc: Global, fault: &TopFault, words: &Words) -> Result<Vec<u8>, Memory>
-    requires { (names : List (List ℕ)) → NameFiles words.now names → IsOfFiles fault.now (length names) }
+    requires { (names : List (List ℕ)) → NameFiles words.now names
+        → IsOfFiles fault.now (length names) }
 {
     let files = files(alloc, words)?;
     fault_text(alloc, fault, &files)

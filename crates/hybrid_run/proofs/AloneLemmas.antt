@@ -1,5 +1,5 @@
 -- The run of a process that neither spawns nor receives, and only prints.
-use Rattle.std.proofs.Common.{◌≡◌, ℕ, zero, suc, Bool, List, [], ◌∷◌, ◌++◌, map, length, Option, Some, None, if◌then◌else◌, refl, sym, ap, ◌∙◌, append_assoc, eq-eqb, ◌+◌, arith}
+use Rattle.std.proofs.Common.{◌≡◌, ℕ, zero, suc, List, [], ◌∷◌, ◌++◌, map, length, Option, Some, None, if◌then◌else◌, refl, sym, ap, ◌∙◌, append_assoc, eq-eqb, ◌+◌, arith}
 use Rattle.std.proofs.lemmas.List.{append-nil, length-append, length-map}
 use Rattle.std.specs.Prelude.{slice_get}
 use Rattle.hy_core.specs.declared.class.Class.{Class}
@@ -12,12 +12,12 @@ use Rattle.hy_core.specs.declared.end.End.TheVariants.{Ended, Raised}
 use Rattle.hybrid_run.specs.Alone.{lines_of}
 use Rattle.hy_core.specs.Computation as outcome
 use Rattle.hy_core.specs.Computation.{Input, Values, Result}
-use Rattle.hy_core.specs.Evaluation.{Evaluated, accepts}
+use Rattle.hy_core.specs.Evaluation.{Evaluated}
 use Rattle.hy_core.specs.Event.{Event, Printed}
 use Rattle.hy_core.specs.FullRun.{IsFullRun, runs_of, behaviour_of}
 use Rattle.hy_core.specs.Machine.{Behaviour, Process, Configuration, IsThrough, after_steps, after_step, event_step, start, if_at}
 use Rattle.hy_core.specs.Output.{outcome_line}
-use Rattle.hy_core.specs.Resolved.{FunctionTree, Timeout}
+use Rattle.hy_core.specs.Resolved.{FunctionTree}
 
 -- the events of pid 0 at so many places, from this place on
 abbrev pub events_from : (place : ℕ) → (count : ℕ) → List Step

@@ -5,7 +5,7 @@ use Rattle.std.proofs.lemmas.Bool.Decides.{nat_tests}
 use Rattle.std.proofs.lemmas.List.{append-nil}
 use Rattle.std.proofs.lemmas.Slice.Eq.{bytes_eq-Decides}
 use Rattle.hybrid_run.specs.CommandLine.{is_option, AreWords, over, file, value_next, value_inside, files_alone, GiveMode, absent, run, check, most_files, IsCommand, IsUsage}
-use Rattle.hybrid_run.specs.Line.{mode_named, behind, line_at, with_any, with_word, with_value, with_option_value, mode_or_run, command_of, command_from, command_in, read_on, GivesLine, GivesCommand}
+use Rattle.hybrid_run.specs.code.Line.{mode_named, behind, line_at, with_any, with_word, with_value, with_option_value, mode_or_run, command_of, command_from, command_in, read_on, GivesLine, GivesCommand}
 use Rattle.hybrid_run.specs.declared.command.Command.{Command}
 use Rattle.hybrid_run.specs.declared.command.Mode.{Mode}
 use Rattle.hybrid_run.specs.declared.command.Mode.TheVariants as m

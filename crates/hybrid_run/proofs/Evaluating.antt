@@ -5,7 +5,7 @@ use Rattle.std.proofs.lemmas.List.{append-nil}
 use Rattle.std.specs.Prelude.{unwrap_or}
 use Rattle.hy_terms.specs.Term.{Term}
 use Rattle.hy_terms.specs.Naming.{text_of}
-use Rattle.hybrid_run.specs.Built.{IsBuilt, the_erlang, the_plus, the_display}
+use Rattle.hybrid_run.specs.Built.{IsBound, IsClosed, the_erlang, the_plus, the_display}
 use Rattle.hy_core.specs.BuiltIn.{answer}
 use Rattle.hy_core.specs.Computation.{Input, Result, then_run, with_one}
 use Rattle.hy_core.specs.Evaluation.{Wait, answer_end, value_end}
@@ -71,7 +71,7 @@ do_gives x y bindings before mid now v ending (vs, p, first) (us, q, second) = (
   more_values before mid now vs us p q,
   record {
     means = λ program atoms names current pid locals supply calls inputs built.
-        let parts = do_parts x y built in
+        let parts = do_parts names.atoms IsBound x y built in
         let rest = second.means program atoms names current pid locals (supply_after names current locals supply x) calls inputs parts.1 in
         meaning-Do program atoms names current pid locals supply calls (env_of bindings) x y inputs
         ∙ ap (λ r. then_run r (with_one (λ t m jns. meaning program atoms names current pid locals (supply_after names current locals supply x) m (env_of bindings) y jns))) (first.means program atoms names current pid locals supply calls inputs parts.0)
@@ -86,7 +86,7 @@ do_raises x y bindings before now r (vs, p, first) = (
   record {
     means = λ program atoms names current pid locals supply calls inputs built.
         meaning-Do program atoms names current pid locals supply calls (env_of bindings) x y inputs
-        ∙ ap (λ r. then_run r (with_one (λ t m jns. meaning program atoms names current pid locals (supply_after names current locals supply x) m (env_of bindings) y jns))) (first.means program atoms names current pid locals supply calls inputs (do_parts x y built).0);
+        ∙ ap (λ r. then_run r (with_one (λ t m jns. meaning program atoms names current pid locals (supply_after names current locals supply x) m (env_of bindings) y jns))) (first.means program atoms names current pid locals supply calls inputs (do_parts names.atoms IsBound x y built).0);
   },
 )
 
@@ -96,10 +96,10 @@ let_gives_one var x y bindings before mid now v ending (vs, p, first) (us, q, se
   more_values before mid now vs us p q,
   record {
     means = λ program atoms names current pid locals supply calls inputs built.
-        let parts = let_parts (var ∷ []) x y built in
+        let parts = let_parts names.atoms IsBound (var ∷ []) x y built in
         let binding : Binding = record { var = var; value = v } in
         let this : parts.0 ≡ var = (let same : var ∷ [] ≡ parts.0 ∷ [] = parts.1 in cc) in
-        let bound = subst (λ (k : List ℕ). IsBuilt names.atoms k y) (ap (λ (k : ℕ). k ∷ variables_of bindings) this ∙ sym (variables_push bindings binding)) parts.3 in
+        let bound = subst (λ (k : List ℕ). IsClosed names.atoms k y) (ap (λ (k : ℕ). k ∷ variables_of bindings) this ∙ sym (variables_push bindings binding)) parts.3 in
         let behind = supply_after names current locals supply x in
         let rest = second.means program atoms names current pid locals behind calls inputs bound in
         let env = env_push bindings binding in
@@ -121,7 +121,7 @@ let_raises_one var x y bindings before now r (vs, p, first) = (
   record {
     means = λ program atoms names current pid locals supply calls inputs built.
         meaning-Let program atoms names current pid locals supply calls (env_of bindings) var x y inputs
-        ∙ ap (λ r. then_run r (with_one (λ t m jns. meaning program atoms names current pid locals (supply_after names current locals supply x) m (Bound var t (env_of bindings)) y jns))) (first.means program atoms names current pid locals supply calls inputs (let_parts (var ∷ []) x y built).2);
+        ∙ ap (λ r. then_run r (with_one (λ t m jns. meaning program atoms names current pid locals (supply_after names current locals supply x) m (Bound var t (env_of bindings)) y jns))) (first.means program atoms names current pid locals supply calls inputs (let_parts names.atoms IsBound (var ∷ []) x y built).2);
   },
 )
 
@@ -133,7 +133,7 @@ let_raises [] x y bindings before now r (vs, p, first) = (
   p,
   record {
     means = λ program atoms names current pid locals supply calls inputs built.
-        let parts = let_parts [] x y built in
+        let parts = let_parts names.atoms IsBound [] x y built in
         absurd (let bad : [] ≡ parts.0 ∷ [] = parts.1 in cc);
   },
 )
@@ -142,7 +142,7 @@ let_raises (var ∷ w ∷ xs) x y bindings before now r (vs, p, first) = (
   p,
   record {
     means = λ program atoms names current pid locals supply calls inputs built.
-        let parts = let_parts (var ∷ w ∷ xs) x y built in
+        let parts = let_parts names.atoms IsBound (var ∷ w ∷ xs) x y built in
         absurd (let bad : var ∷ w ∷ xs ≡ parts.0 ∷ [] = parts.1 in cc);
   },
 )
@@ -150,27 +150,27 @@ let_raises (var ∷ w ∷ xs) x y bindings before now r (vs, p, first) = (
 -- ---- calls
 
 -- a call with one argument, whose module and name are atoms, is `display`
-one_argument : (atoms : List (List ℕ)) (bound : List ℕ) (m k : ℕ) (x : Expr) → IsBuilt atoms bound (e.Call (e.Atom m) (e.Atom k) (x ∷ [])) → (slice_get atoms m ≡ Some the_erlang) × (slice_get atoms k ≡ Some the_display) × IsBuilt atoms bound x
-one_argument atoms bound m k x built = shown (call_parts (e.Atom m) (e.Atom k) (x ∷ []) built)
+one_argument : (atoms : List (List ℕ)) (bound : List ℕ) (m k : ℕ) (x : Expr) → IsClosed atoms bound (e.Call (e.Atom m) (e.Atom k) (x ∷ [])) → (slice_get atoms m ≡ Some the_erlang) × (slice_get atoms k ≡ Some the_display) × IsClosed atoms bound x
+one_argument atoms bound m k x built = shown (call_parts atoms IsBound (e.Atom m) (e.Atom k) (x ∷ []) built)
   where
-    shown : IsDisplay atoms bound (e.Atom m) (e.Atom k) (x ∷ []) ⊎ IsSum atoms bound (e.Atom m) (e.Atom k) (x ∷ []) → (slice_get atoms m ≡ Some the_erlang) × (slice_get atoms k ≡ Some the_display) × IsBuilt atoms bound x
+    shown : IsDisplay atoms IsBound bound (e.Atom m) (e.Atom k) (x ∷ []) ⊎ IsSum atoms IsBound bound (e.Atom m) (e.Atom k) (x ∷ []) → (slice_get atoms m ≡ Some the_erlang) × (slice_get atoms k ≡ Some the_display) × IsClosed atoms bound x
     shown (inl d) = (
       subst (λ (n : ℕ). slice_get atoms n ≡ Some the_erlang) (sym (atom_same m d.module_atom d.is_module)) d.erlang,
       subst (λ (n : ℕ). slice_get atoms n ≡ Some the_display) (sym (atom_same k d.name_atom d.is_name)) d.name,
-      (let same : d.part ≡ x = (let args : x ∷ [] ≡ d.part ∷ [] = d.is_args in cc) in subst (λ (z : Expr). IsBuilt atoms bound z) same d.built),
+      (let same : d.part ≡ x = (let args : x ∷ [] ≡ d.part ∷ [] = d.is_args in cc) in subst (λ (z : Expr). IsClosed atoms bound z) same d.built),
     )
     shown (inr s) = absurd (let bad : x ∷ [] ≡ s.left ∷ s.right ∷ [] = s.is_args in cc)
 
-two_arguments : (atoms : List (List ℕ)) (bound : List ℕ) (m k : ℕ) (x y : Expr) → IsBuilt atoms bound (e.Call (e.Atom m) (e.Atom k) (x ∷ y ∷ [])) → (slice_get atoms m ≡ Some the_erlang) × (slice_get atoms k ≡ Some the_plus) × IsBuilt atoms bound x × IsBuilt atoms bound y
-two_arguments atoms bound m k x y built = added (call_parts (e.Atom m) (e.Atom k) (x ∷ y ∷ []) built)
+two_arguments : (atoms : List (List ℕ)) (bound : List ℕ) (m k : ℕ) (x y : Expr) → IsClosed atoms bound (e.Call (e.Atom m) (e.Atom k) (x ∷ y ∷ [])) → (slice_get atoms m ≡ Some the_erlang) × (slice_get atoms k ≡ Some the_plus) × IsClosed atoms bound x × IsClosed atoms bound y
+two_arguments atoms bound m k x y built = added (call_parts atoms IsBound (e.Atom m) (e.Atom k) (x ∷ y ∷ []) built)
   where
-    added : IsDisplay atoms bound (e.Atom m) (e.Atom k) (x ∷ y ∷ []) ⊎ IsSum atoms bound (e.Atom m) (e.Atom k) (x ∷ y ∷ []) → (slice_get atoms m ≡ Some the_erlang) × (slice_get atoms k ≡ Some the_plus) × IsBuilt atoms bound x × IsBuilt atoms bound y
+    added : IsDisplay atoms IsBound bound (e.Atom m) (e.Atom k) (x ∷ y ∷ []) ⊎ IsSum atoms IsBound bound (e.Atom m) (e.Atom k) (x ∷ y ∷ []) → (slice_get atoms m ≡ Some the_erlang) × (slice_get atoms k ≡ Some the_plus) × IsClosed atoms bound x × IsClosed atoms bound y
     added (inl d) = absurd (let bad : x ∷ y ∷ [] ≡ d.part ∷ [] = d.is_args in cc)
     added (inr s) = (
       subst (λ (n : ℕ). slice_get atoms n ≡ Some the_erlang) (sym (atom_same m s.module_atom s.is_module)) s.erlang,
       subst (λ (n : ℕ). slice_get atoms n ≡ Some the_plus) (sym (atom_same k s.name_atom s.is_name)) s.name,
-      (let same : s.left ≡ x = (let args : x ∷ y ∷ [] ≡ s.left ∷ s.right ∷ [] = s.is_args in cc) in subst (λ (z : Expr). IsBuilt atoms bound z) same s.built_left),
-      (let same : s.right ≡ y = (let args : x ∷ y ∷ [] ≡ s.left ∷ s.right ∷ [] = s.is_args in cc) in subst (λ (z : Expr). IsBuilt atoms bound z) same s.built_right),
+      (let same : s.left ≡ x = (let args : x ∷ y ∷ [] ≡ s.left ∷ s.right ∷ [] = s.is_args in cc) in subst (λ (z : Expr). IsClosed atoms bound z) same s.built_left),
+      (let same : s.right ≡ y = (let args : x ∷ y ∷ [] ≡ s.left ∷ s.right ∷ [] = s.is_args in cc) in subst (λ (z : Expr). IsClosed atoms bound z) same s.built_right),
     )
 
 pub display_gives : (x : Expr) (bindings : List Binding) (before mid : List Value) (v : Value) → Evaluates x bindings before mid (Gives v) → EvaluatesCall (x ∷ []) bindings before (mid ++ v ∷ []) (Gives True)
@@ -261,10 +261,10 @@ call_evaluates m k args bindings before now ending a b p q h =
     subst (λ (z : Expr). Evaluates (e.Call z k args) bindings before now ending) (sym p) (subst (λ (z : Expr). Evaluates (e.Call (e.Atom a) z args) bindings before now ending) (sym q) (h a b))
 
 -- the module and the name of a call are atoms
-pub module_of : (atoms : List (List ℕ)) (bound : List ℕ) (m k : Expr) (args : List Expr) → IsBuilt atoms bound (e.Call m k args) → (a b : ℕ) × (m ≡ e.Atom a) × (k ≡ e.Atom b)
-module_of atoms bound m k args built = of_call (call_parts m k args built)
+pub module_of : (atoms : List (List ℕ)) (bound : List ℕ) (m k : Expr) (args : List Expr) → IsClosed atoms bound (e.Call m k args) → (a b : ℕ) × (m ≡ e.Atom a) × (k ≡ e.Atom b)
+module_of atoms bound m k args built = of_call (call_parts atoms IsBound m k args built)
   where
-    of_call : IsDisplay atoms bound m k args ⊎ IsSum atoms bound m k args → (a b : ℕ) × (m ≡ e.Atom a) × (k ≡ e.Atom b)
+    of_call : IsDisplay atoms IsBound bound m k args ⊎ IsSum atoms IsBound bound m k args → (a b : ℕ) × (m ≡ e.Atom a) × (k ≡ e.Atom b)
     of_call (inl d) = (d.module_atom, d.name_atom, d.is_module, d.is_name)
     of_call (inr s) = (s.module_atom, s.name_atom, s.is_module, s.is_name)
 
@@ -306,8 +306,8 @@ shown_call args x bindings before mid now v p ending is first gives ends shown =
     subst (λ (k : List Expr). EvaluatesCall k bindings before now ending) (sym is) so
 
 -- the variable that is pushed is the one of the `let`
-pub under_built : (atoms : List (List ℕ)) (var : ℕ) (vars : List ℕ) (value : Value) (env now : List Binding) (body : Expr) (d : ℕ) → vars ≡ var ∷ [] → now ≡ env ++ record { var = get_or vars 0 d; value = value } ∷ [] → IsBuilt atoms (var ∷ variables_of env) body → IsBuilt atoms (variables_of now) body
+pub under_built : (atoms : List (List ℕ)) (var : ℕ) (vars : List ℕ) (value : Value) (env now : List Binding) (body : Expr) (d : ℕ) → vars ≡ var ∷ [] → now ≡ env ++ record { var = get_or vars 0 d; value = value } ∷ [] → IsClosed atoms (var ∷ variables_of env) body → IsClosed atoms (variables_of now) body
 under_built atoms var vars value env now body d is pushed built =
     let this : get_or vars 0 d ≡ var = ap (λ (k : List ℕ). get_or k 0 d) is in
     let bound : variables_of now ≡ var ∷ variables_of env = ap variables_of pushed ∙ variables_push env (record { var = get_or vars 0 d; value = value }) ∙ ap (λ (k : ℕ). k ∷ variables_of env) this in
-    subst (λ (k : List ℕ). IsBuilt atoms k body) (sym bound) built
+    subst (λ (k : List ℕ). IsClosed atoms k body) (sym bound) built

@@ -1,7 +1,7 @@
 -- The faults of a program: its least fault is one, and the module of each stands among the given ones.
 use Rattle.std.proofs.Common.{◌≡◌, ℕ, ◌<◌, ◌≤◌, List, [], ◌∷◌, length, slice_get, Some, refl, sym, ap, ◌∙◌, arith}
 use Rattle.std.proofs.lemmas.Option.{slice_get_within}
-use Rattle.hy_core.specs.Faults.{IsFault, repeated_module, repeated_function, repeated_definition, undefined_export, unbound_variable, repeated_parameter, repeated_variable, other_arity, unknown_function, no_main, forbidden_form, wrong_values, forbidden_in_guard, too_great, IsFunction, IsLeastFault, IsModule, IsNode, IsUpTo, at_end, lower, same, fault_of, form_place, order_of}
+use Rattle.hy_core.specs.Faults.{IsFault, repeated_module, repeated_function, repeated_definition, undefined_export, unbound_variable, repeated_parameter, repeated_variable, other_arity, unknown_function, no_main, forbidden_form, wrong_values, forbidden_in_guard, too_great, IsGivenFunction, IsLeastFault, IsGivenModule, IsNode, IsUpTo, at_end, lower, same, fault_of, form_place, order_of}
 use Rattle.hy_core.specs.Nodes.{Node}
 use Rattle.hy_core.specs.declared.fault.Form.{Form}
 use Rattle.hy_core.specs.declared.fault.Form.TheVariants as form
@@ -9,7 +9,7 @@ use Rattle.hy_core.specs.declared.fault.LintFault.{LintFault}
 use Rattle.hy_core.specs.declared.tree.Function.{Function}
 use Rattle.hy_core.specs.declared.tree.Module.{Module}
 use Rattle.hy_core.specs.declared.tree.Program.{Program}
-use Rattle.hybrid_run.specs.Headline.{with_prelude}
+use Rattle.hy_core.specs.PreludeModules.{with_prelude}
 
 -- ---- the least fault
 
@@ -94,13 +94,13 @@ one_least program x y p q = one_fault x y (one_order (order_of x) (order_of y) (
 -- ---- the module of a fault
 
 module _ (zs : List Module) where
-  module_within : (i : ℕ) (m : Module) → IsModule (with_prelude zs) i m → i < length zs
+  module_within : (i : ℕ) (m : Module) → IsGivenModule (with_prelude zs) i m → i < length zs
   module_within i m is = slice_get_within zs i m is
 
   node_within : (i j k : ℕ) (m : Module) (n : Node) → IsNode (with_prelude zs) i j k m n → i < length zs
   node_within i j k m n at = module_within i m at.around.given
 
-  function_within : (i j : ℕ) (m : Module) (f : Function) → IsFunction (with_prelude zs) i j m f → i < length zs
+  function_within : (i j : ℕ) (m : Module) (f : Function) → IsGivenFunction (with_prelude zs) i j m f → i < length zs
   function_within i j m f at = module_within i m at.given
 
   pub fault_within : 1 ≤ length zs → (fault : LintFault) → IsFault (with_prelude zs) fault → fault.«module» < length zs

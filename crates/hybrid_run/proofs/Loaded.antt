@@ -1,6 +1,6 @@
 -- What the texts of the files are, by what was read of them.
-use Rattle.std.proofs.Common.{◌≡◌, ℕ, suc, zero, ◌+◌, ◌<◌, ◌≤◌, ◌^◌, List, [], ◌∷◌, ◌++◌, take, length, slice_get, Option, None, Some, Result, Err, refl, sym, ap, subst, ◌∙◌, arith}
-use Rattle.std.specs.Prelude.{IfErr, IfSome}
+use Rattle.std.proofs.Common.{◌≡◌, ℕ, suc, zero, ◌+◌, ◌<◌, ◌≤◌, ◌^◌, List, [], ◌∷◌, ◌++◌, take, length, slice_get, Option, None, Some, inl, inr, refl, sym, ap, subst, ◌∙◌, arith}
+use Rattle.std.specs.Prelude.{IfSome}
 use Rattle.std.specs.List.{AllByRecursion}
 use Rattle.std.proofs.lemmas.List.{take_all, length-take}
 use Rattle.hy_core.specs.Reading.{IsModuleText}
@@ -10,11 +10,10 @@ use Rattle.hy_core.specs.declared.refusal.RefusalKind.TheVariants as k
 use Rattle.hy_core.specs.declared.tree.Module.{Module}
 use Rattle.core_parse.proofs.WholeText.{one_tree}
 use Rattle.core_parse.proofs.OneVerdict.{no_module_is_refused, one_refusal}
-use Rattle.outside.specs.Outside.{first_bytes, read_limit}
-use Rattle.hybrid_run.specs.Faults.{IfNamesFile, IsOfFile}
+use Rattle.outside.specs.Outside.{Rises, first_bytes, read_limit}
 use Rattle.hybrid_run.specs.declared.fault.TopFault.{TopFault}
 use Rattle.hybrid_run.specs.declared.fault.TopFault.TheVariants as f
-use Rattle.hybrid_run.specs.Loading.{Told, AreTold, IsRead, AreRead, IsReadWhereTold, AreReadWhereTold, PassBefore, IsRefusedWhereTold, IsFirstRefused}
+use Rattle.hybrid_run.specs.Loading.{Told, AreTold, IsRead, AreRead, IsReadWhereTold, AreReadWhereTold, PassBefore, IsRefusedAs, IsRefusedWhereTold, IsFirstRefused, RefusedText, Sourced, sourced, StopsAt, StopsLoading, StopsParsing}
 
 -- ---- the first bytes of a text, and the whole
 
@@ -29,9 +28,6 @@ few whole h = omega (arith, length-take read_limit whole)
 whole_from : (P : List ℕ → Type 0) (whole : List ℕ) → length (first_bytes whole) ≤ 2 ^ 20 → P (first_bytes whole) → P whole
 whole_from P whole short h = subst P (first_whole whole (few whole short)) h
 
-module_whole : (whole : List ℕ) (z : Module) → IsModuleText (first_bytes whole) z → IsModuleText whole z
-module_whole whole z reads = whole_from (λ (text : List ℕ). IsModuleText text z) whole reads.0 reads
-
 refused_whole : (whole : List ℕ) (kind : RefusalKind) (place : ℕ) → IsRefusedText (first_bytes whole) kind place → IsRefusedText whole kind place
 refused_whole whole k.TooLong place h = (omega (arith, length-take read_limit whole, h.0), h.1)
 refused_whole whole k.BadToken place h = whole_from (λ (text : List ℕ). IsRefusedText text k.BadToken place) whole h.0 h
@@ -40,18 +36,32 @@ refused_whole whole k.Ended place h = whole_from (λ (text : List ℕ). IsRefuse
 refused_whole whole k.NumberRange place h = whole_from (λ (text : List ℕ). IsRefusedText text k.NumberRange place) whole h.0 h
 refused_whole whole k.TooDeep place h = whole_from (λ (text : List ℕ). IsRefusedText text k.TooDeep place) whole h.0 h
 
--- what holds of the bytes that were read holds of the text that is told
-whole_told : (o : Option (List ℕ)) (bytes : List ℕ) (P : List ℕ → Type 0) → ((whole : List ℕ) → P (first_bytes whole) → P whole) → IfSome o (λ whole. bytes ≡ first_bytes whole) → P bytes → (text : List ℕ) → o ≡ Some text → P text
-whole_told None bytes P on is h text told = absurd cc
-whole_told (Some whole) bytes P on is h text told =
-    let same : whole ≡ text = cc in
-    subst P same (on whole (subst P is h))
+-- a text that was read to its end is the one that is told
+pub read_whole : (told : Told) (name bytes : List ℕ) (z : Module) → IfSome (told name) (λ whole. bytes ≡ first_bytes whole) → IsModuleText bytes z → IsReadWhereTold told name z
+read_whole told name bytes z is reads = (bytes, by (told name) is, reads)
+  where
+    by : (o : Option (List ℕ)) → IfSome o (λ whole. bytes ≡ first_bytes whole) → (whole : List ℕ) → o ≡ Some whole → whole ≡ bytes
+    by None is whole tells = absurd cc
+    by (Some told) is whole tells =
+        let same : told ≡ whole = cc in
+        let short = subst (λ (text : List ℕ). length text ≤ 2 ^ 20) is reads.0 in
+        sym same ∙ sym (first_whole told (few told short)) ∙ sym is
 
-pub module_told : (o : Option (List ℕ)) (bytes : List ℕ) (z : Module) → IfSome o (λ whole. bytes ≡ first_bytes whole) → IsModuleText bytes z → (text : List ℕ) → o ≡ Some text → IsModuleText text z
-module_told o bytes z is read = whole_told o bytes (λ (text : List ℕ). IsModuleText text z) (λ whole. module_whole whole z) is read
+-- a refusal of what was read is one of what is told
+pub refused_as : (told : Told) (name bytes : List ℕ) (kind : RefusalKind) (at : ℕ) → IfSome (told name) (λ whole. bytes ≡ first_bytes whole) → IsRefusedText bytes kind at → IsRefusedAs told name kind at
+refused_as told name bytes kind at is refused = by (told name) is refl
+  where
+    by : (o : Option (List ℕ)) → IfSome o (λ whole. bytes ≡ first_bytes whole) → told name ≡ o → IsRefusedAs told name kind at
+    by None is none = record { text = bytes; is_text = λ whole tells. absurd (let bad = sym none ∙ tells in cc); refused = refused }
+    by (Some whole) is some = record {
+      text = whole;
+      is_text = λ other tells. let same = sym some ∙ tells in cc;
+      refused = refused_whole whole kind at (subst (λ (text : List ℕ). IsRefusedText text kind at) is refused);
+    }
 
-pub refused_told : (o : Option (List ℕ)) (bytes : List ℕ) (kind : RefusalKind) (place : ℕ) → IfSome o (λ whole. bytes ≡ first_bytes whole) → IsRefusedText bytes kind place → (text : List ℕ) → o ≡ Some text → IsRefusedText text kind place
-refused_told o bytes kind place is refused = whole_told o bytes (λ (text : List ℕ). IsRefusedText text kind place) (λ whole. refused_whole whole kind place) is refused
+-- the tree of a text that is told
+tree_told : (told : Told) (file text : List ℕ) (z : Module) → IsReadWhereTold told file z → told file ≡ Some text → IsModuleText text z
+tree_told told file text z (own, is_own, reads) tells = subst (λ (k : List ℕ). IsModuleText k z) (sym (is_own text tells)) reads
 
 -- ---- one file after the other
 
@@ -68,15 +78,6 @@ pass told [] zs h = tt
 pass told (file ∷ files) [] h = absurd h
 pass told (file ∷ files) (z ∷ zs) h = ((z, h.0), pass told files zs h.1)
 
--- what holds of each item holds of each of the first ones
-first_items : {A : Type 0} (P : A → Type 0) (xs : List A) (count : ℕ) → AllByRecursion P xs → AllByRecursion P (take count xs)
-first_items P xs zero h = tt
-first_items P [] (suc count) h = tt
-first_items P (x ∷ xs) (suc count) h = (h.0, first_items P xs count h.1)
-
-pub passes_before : (told : Told) (files : List (List ℕ)) (zs : List Module) (place : ℕ) → AreReadWhereTold told files zs → PassBefore told files place
-passes_before told files zs place h = first_items (λ file. (z : Module) × IsReadWhereTold told file z) files place (pass told files zs h)
-
 -- there is one tree for each file
 pub same_count : (told : Told) (files : List (List ℕ)) (zs : List Module) → AreReadWhereTold told files zs → length zs ≡ length files
 same_count told [] [] h = refl
@@ -88,7 +89,7 @@ pub all_read : (told : Told) (files : List (List ℕ)) (zs : List Module) → Ar
 all_read told [] [] tells h = tt
 all_read told [] (z ∷ zs) tells h = absurd h
 all_read told (file ∷ files) [] tells h = absurd h
-all_read told (file ∷ files) (z ∷ zs) tells h = ((tells.0.0, tells.0.1, h.0 tells.0.0 tells.0.1), all_read told files zs tells.1 h.1)
+all_read told (file ∷ files) (z ∷ zs) tells h = ((tells.0.0, tells.0.1, tree_told told file tells.0.0 z h.0 tells.0.1), all_read told files zs tells.1 h.1)
 
 -- the trees of texts that are told are those that were read
 pub same_trees : (told : Told) (files : List (List ℕ)) (ys zs : List Module) → AreRead told files ys → AreReadWhereTold told files zs → zs ≡ ys
@@ -98,7 +99,7 @@ same_trees told [] (y ∷ ys) zs read h = absurd read
 same_trees told (file ∷ files) [] zs read h = absurd read
 same_trees told (file ∷ files) (y ∷ ys) [] read h = absurd h
 same_trees told (file ∷ files) (y ∷ ys) (z ∷ zs) ((text, tells, is), read) h =
-    let first : z ≡ y = one_tree text z y (h.0 text tells) is in
+    let first : z ≡ y = one_tree text z y (tree_told told file text z h.0 tells) is in
     let rest : zs ≡ ys = same_trees told files ys zs read h.1 in
     ap (λ (x : Module). x ∷ zs) first ∙ ap (λ (xs : List Module). y ∷ xs) rest
 
@@ -106,7 +107,7 @@ same_trees told (file ∷ files) (y ∷ ys) (z ∷ zs) ((text, tells, is), read)
 
 -- a text that is a module, where it is told, is not refused
 module_or_refused : (told : Told) (file text : List ℕ) (z : Module) (kind : RefusalKind) (at : ℕ) → told file ≡ Some text → IsReadWhereTold told file z → IsRefusedText text kind at → ⊥
-module_or_refused told file text z kind at tells read refused = no_module_is_refused text z kind at (read text tells) refused
+module_or_refused told file text z kind at tells read refused = no_module_is_refused text z kind at (tree_told told file text z read tells) refused
 
 -- a file at a place before another is among those before it
 before_place : (P : List ℕ → Type 0) (files : List (List ℕ)) (place other : ℕ) (file : List ℕ) → AllByRecursion P (take other files) → place < other → slice_get files place ≡ Some file → P file
@@ -153,34 +154,54 @@ first_refused_not_read told files zs place kind at first read =
     let one = passes_at told files zs place first.file read first.stands in
     module_or_refused told first.file first.text one.0 kind at first.tells one.1 first.refused
 
--- a place among the files
-pub file_at : (files : List (List ℕ)) (place : ℕ) → place < length files → (file : List ℕ) × (slice_get files place ≡ Some file)
-file_at [] place low = absurd (omega arith)
-file_at (f ∷ fs) zero low = (f, refl)
-file_at (f ∷ fs) (suc i) low = file_at fs i (omega arith)
+-- a refusal of a file is one of its text, where that is told
+pub refused_where_told : (sources : Sourced) (files : List (List ℕ)) (place : ℕ) (kind : RefusalKind) (at : ℕ) → RefusedText sources files place kind at → IsRefusedWhereTold sources.told files place kind at
+refused_where_told sources files place kind at r file text stands tells =
+    let same : r.name ≡ file = (let both : Some r.name ≡ Some file = sym r.stands ∙ stands in cc) in
+    let own : text ≡ r.refused.text = r.refused.is_text text (ap sources.told same ∙ tells) in
+    subst (λ (k : List ℕ). IsRefusedText k kind at) (sym own) r.refused.refused
 
 -- the bytes of a slice that were read
 pub bytes_told : (o : Option (List ℕ)) (items bytes : List ℕ) → bytes ≡ items → IfSome o (λ whole. items ≡ first_bytes whole) → IfSome o (λ whole. bytes ≡ first_bytes whole)
 bytes_told None items bytes is h = tt
 bytes_told (Some whole) items bytes is h = is ∙ h
 
-behind_place : (told : Told) (files : List (List ℕ)) (place : ℕ) (zs : List Module) (file : ℕ) → file ≡ place → place < length files → AreReadWhereTold told (take place files) zs → (file < length files) × PassBefore told files file
-behind_place told files place zs file is low read = (omega (arith, is, low), subst (λ (i : ℕ). PassBefore told files i) (sym is) (pass told (take place files) zs read))
+-- why a file isn't read, by what is wrong with its text
+pub stops_parsing : (sources : Sourced) (place : ℕ) (name bytes : List ℕ) (fault : TopFault) → IfSome (sources.told name) (λ whole. bytes ≡ first_bytes whole) → StopsParsing bytes place fault → StopsAt sources place name fault
+stops_parsing sources place name bytes f.Usage is h = h
+stops_parsing sources place name bytes (f.Read file) is h = absurd h
+stops_parsing sources place name bytes (f.Refused file refused) is h = (h.0, refused_as sources.told name bytes refused.kind refused.place is h.1)
+stops_parsing sources place name bytes (f.Lint found) is h = h
+stops_parsing sources place name bytes f.NotBuilt is h = h
+stops_parsing sources place name bytes f.Write is h = h
+stops_parsing sources place name bytes f.Memory is h = h
 
--- a fault of the file at a place, behind files that were read
-pub behind_at : (told : Told) (files : List (List ℕ)) (place : ℕ) (zs : List Module) (fault : TopFault) → IsOfFile place fault → place < length files → AreReadWhereTold told (take place files) zs → IfNamesFile fault (λ file. (file < length files) × PassBefore told files file)
-behind_at told files place zs f.Usage kinds low read = tt
-behind_at told files place zs (f.Read file) kinds low read = behind_place told files place zs file kinds low read
-behind_at told files place zs (f.Refused file refused) kinds low read = behind_place told files place zs file kinds low read
-behind_at told files place zs (f.Lint found) kinds low read = absurd kinds
-behind_at told files place zs f.NotBuilt kinds low read = tt
-behind_at told files place zs f.Write kinds low read = tt
-behind_at told files place zs f.Memory kinds low read = tt
+-- a text that is told before is told then
+refused_before : (told now : Told) (name : List ℕ) (kind : RefusalKind) (at : ℕ) → ((other : List ℕ) → now other ≡ told other) → IsRefusedAs now name kind at → IsRefusedAs told name kind at
+refused_before told now name kind at same r = record { text = r.text; is_text = λ whole tells. r.is_text whole (same name ∙ tells); refused = r.refused }
 
-pub behind_result : {A : Type 0} (told : Told) (files : List (List ℕ)) (place : ℕ) (zs : List Module) (fault : TopFault) (r : Result A TopFault) → r ≡ Err fault → IsOfFile place fault → place < length files → AreReadWhereTold told (take place files) zs
-    → IfErr r (λ e. IfNamesFile e (λ file. (file < length files) × PassBefore told files file))
-behind_result {A = A} told files place zs fault r is kinds low read =
-    subst (λ (k : Result A TopFault). IfErr k (λ e. IfNamesFile e (λ file. (file < length files) × PassBefore told files file))) (sym is) (behind_at told files place zs fault kinds low read)
+rises_before : (first old new : ℕ) → first ≤ old → Rises old new → Rises first new
+rises_before first old new low (inl up) = inl (omega (arith, low, up))
+rises_before first old new low (inr last) = inr last
+
+-- why files aren't read, where those before the one at this place were
+module _ (told : Told) (first old new : List ℕ → ℕ) (now : Told) (files : List (List ℕ)) (place : ℕ) (zs : List Module) (name : List ℕ)
+    (stands : slice_get files place ≡ Some name) (same : (other : List ℕ) → now other ≡ told other) (counts : (other : List ℕ) → first other ≤ old other)
+    (read : AreReadWhereTold told (take place files) zs) where
+  before_here : (file : ℕ) → file ≡ place → PassBefore told files file
+  before_here file is = subst (λ (i : ℕ). PassBefore told files i) (sym is) (pass told (take place files) zs read)
+
+  stands_here : (file : ℕ) → file ≡ place → slice_get files file ≡ Some name
+  stands_here file is = ap (λ (i : ℕ). slice_get files i) is ∙ stands
+
+  pub stops_loading : (fault : TopFault) → StopsAt (sourced now old new) place name fault → StopsLoading (sourced told first new) files fault
+  stops_loading f.Usage h = h
+  stops_loading (f.Read file) h = record { name = name; stands = stands_here file h.0; failed = rises_before (first name) (old name) (new name) (counts name) h.1; before = before_here file h.0 }
+  stops_loading (f.Refused file refused) h = record { name = name; stands = stands_here file h.0; refused = refused_before told now name refused.kind refused.place same h.1; before = before_here file h.0 }
+  stops_loading (f.Lint found) h = h
+  stops_loading f.NotBuilt h = h
+  stops_loading f.Write h = h
+  stops_loading f.Memory h = h
 
 take_get : (xs : List (List ℕ)) (i : ℕ) (x : List ℕ) → slice_get xs i ≡ Some x → take (suc i) xs ≡ take i xs ++ x ∷ []
 take_get [] i x is = absurd cc
@@ -194,4 +215,4 @@ read_next told now files place zs items file z stands same read one is =
     let next : suc place ≡ place + 1 = omega arith in
     subst (λ (i : ℕ). AreReadWhereTold told (take i files) items) next
     (subst (λ (xs : List Module). AreReadWhereTold told (take (suc place) files) xs) (sym is)
-    (subst (λ (fs : List (List ℕ)). AreReadWhereTold told fs (zs ++ z ∷ [])) (sym (take_get files place file stands)) (read_more told (take place files) zs file z read (λ text tells. one text (same file ∙ tells)))))
+    (subst (λ (fs : List (List ℕ)). AreReadWhereTold told fs (zs ++ z ∷ [])) (sym (take_get files place file stands)) (read_more told (take place files) zs file z read (one.0, (λ whole tells. one.1 whole (same file ∙ tells)), one.2))))

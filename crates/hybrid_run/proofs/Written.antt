@@ -1,11 +1,11 @@
 -- Bytes written one piece after the other.
-use Rattle.std.proofs.Common.{◌≡◌, ℕ, ◌+◌, ◌<◌, List, [], ◌∷◌, ◌++◌, take, length, get_or, Option, None, Some, refl, sym, ap, subst, ◌∙◌, append_assoc}
-use Rattle.std.proofs.lemmas.List.{append-nil, take_more, take-append-drop}
+use Rattle.std.proofs.Common.{◌≡◌, ℕ, ◌+◌, ◌<◌, List, [], ◌∷◌, ◌++◌, map, take, length, get_or, Option, None, Some, refl, sym, ap, subst, ◌∙◌, append_assoc}
+use Rattle.std.proofs.lemmas.List.{append-nil, map-append, take_more, take-append-drop}
 use Rattle.std.specs.Prelude.{drop}
-use Rattle.hy_core.specs.Canonical.{canonical_text}
+use Rattle.hy_core.specs.Canonical.{canonical_text, one_after_another}
 use Rattle.hy_core.specs.declared.tree.Module.{Module}
 use Rattle.hybrid_run.specs.Arithmetic.{value_text, printed_lines}
-use Rattle.hybrid_run.specs.Headline.{canonical_texts}
+use Rattle.hybrid_run.specs.Headline.{Keeps}
 use Rattle.outside.specs.Outside.{Appends, AppendsPrefix}
 use Rattle.hybrid_run.specs.declared.value.Value.{Value}
 
@@ -28,6 +28,27 @@ prefix_behind (Some old) (Some mid) c xs ys p (part, rest, whole, now) =
 pub prefix_longer : (a c : Option (List ℕ)) (xs ys : List ℕ) → AppendsPrefix a c xs → AppendsPrefix a c (xs ++ ys)
 prefix_longer None c xs ys q = tt
 prefix_longer (Some old) c xs ys (part, rest, whole, now) = (part, rest ++ ys, sym (append_assoc part rest ys) ∙ ap (λ (k : List ℕ). k ++ ys) whole, now)
+
+-- ---- what was held is at the front
+
+pub keeps_same : (a : Option (List ℕ)) → Keeps a a
+keeps_same None = tt
+keeps_same (Some xs) = ([], ap Some (sym (append-nil xs)))
+
+pub keeps_both : (a b c : Option (List ℕ)) → Keeps a b → Keeps b c → Keeps a c
+keeps_both None b c p q = tt
+keeps_both (Some old) None c p q = absurd (let bad = p.1 in cc)
+keeps_both (Some old) (Some mid) c (more, p) (rest, q) =
+    let same : mid ≡ old ++ more = cc in
+    (more ++ rest, q ∙ ap (λ (k : List ℕ). Some (k ++ rest)) same ∙ ap (λ (k : List ℕ). Some k) (append_assoc old more rest))
+
+pub appends_keeps : (a b : Option (List ℕ)) (xs : List ℕ) → Appends a b xs → Keeps a b
+appends_keeps None b xs p = tt
+appends_keeps (Some old) b xs p = (xs, p)
+
+pub prefix_keeps : (a b : Option (List ℕ)) (xs : List ℕ) → AppendsPrefix a b xs → Keeps a b
+prefix_keeps None b xs p = tt
+prefix_keeps (Some old) b xs (part, rest, whole, now) = (part, now)
 
 -- ---- pieces, one for each item
 
@@ -80,21 +101,29 @@ line_cut a b c values i d text h is before now =
     subst (λ (k : List ℕ). AppendsPrefix a c k) (lines_pieces values)
     (piece_cut line_piece a b c values i d h (subst (λ (k : List ℕ). Appends a b k) (sym (lines_pieces (take i values))) before) (subst (λ (k : List ℕ). AppendsPrefix b c k) is now))
 
--- ---- texts of modules
+-- ---- texts
 
-texts_pieces : (zs : List Module) → pieces canonical_text zs ≡ canonical_texts zs
+texts_pieces : (texts : List (List ℕ)) → pieces (λ text. text) texts ≡ one_after_another texts
 unfolding pieces
 texts_pieces [] = refl
-texts_pieces (z ∷ zs) = ap (λ (k : List ℕ). canonical_text z ++ k) (texts_pieces zs)
+texts_pieces (t ∷ ts) = ap (λ (k : List ℕ). t ++ k) (texts_pieces ts)
 
 -- one text more in the sink
-pub text_written : (a b c : Option (List ℕ)) (zs : List Module) (i : ℕ) (d : Module) (text : List ℕ) → i < length zs → text ≡ canonical_text (get_or zs i d) → Appends a b (canonical_texts (take i zs)) → Appends b c text → Appends a c (canonical_texts (take (i + 1) zs))
-text_written a b c zs i d text h is before now =
-    subst (λ (k : List ℕ). Appends a c k) (texts_pieces (take (i + 1) zs))
-    (piece_written canonical_text a b c zs i d h (subst (λ (k : List ℕ). Appends a b k) (sym (texts_pieces (take i zs))) before) (subst (λ (k : List ℕ). Appends b c k) is now))
+pub text_written : (a b c : Option (List ℕ)) (texts : List (List ℕ)) (i : ℕ) (d text : List ℕ) → i < length texts → text ≡ get_or texts i d → Appends a b (one_after_another (take i texts)) → Appends b c text → Appends a c (one_after_another (take (i + 1) texts))
+text_written a b c texts i d text h is before now =
+    subst (λ (k : List ℕ). Appends a c k) (texts_pieces (take (i + 1) texts))
+    (piece_written (λ text. text) a b c texts i d h (subst (λ (k : List ℕ). Appends a b k) (sym (texts_pieces (take i texts))) before) (subst (λ (k : List ℕ). Appends b c k) is now))
 
 -- a text that was cut
-pub text_cut : (a b c : Option (List ℕ)) (zs : List Module) (i : ℕ) (d : Module) (text : List ℕ) → i < length zs → text ≡ canonical_text (get_or zs i d) → Appends a b (canonical_texts (take i zs)) → AppendsPrefix b c text → AppendsPrefix a c (canonical_texts zs)
-text_cut a b c zs i d text h is before now =
-    subst (λ (k : List ℕ). AppendsPrefix a c k) (texts_pieces zs)
-    (piece_cut canonical_text a b c zs i d h (subst (λ (k : List ℕ). Appends a b k) (sym (texts_pieces (take i zs))) before) (subst (λ (k : List ℕ). AppendsPrefix b c k) is now))
+pub text_cut : (a b c : Option (List ℕ)) (texts : List (List ℕ)) (i : ℕ) (d text : List ℕ) → i < length texts → text ≡ get_or texts i d → Appends a b (one_after_another (take i texts)) → AppendsPrefix b c text → AppendsPrefix a c (one_after_another texts)
+text_cut a b c texts i d text h is before now =
+    subst (λ (k : List ℕ). AppendsPrefix a c k) (texts_pieces texts)
+    (piece_cut (λ text. text) a b c texts i d h (subst (λ (k : List ℕ). Appends a b k) (sym (texts_pieces (take i texts))) before) (subst (λ (k : List ℕ). AppendsPrefix b c k) is now))
+
+-- one module more is one text more
+pub text_made : (zs : List Module) (texts now : List (List ℕ)) (i : ℕ) (z : Module) (text : List ℕ) → i < length zs → z ≡ get_or zs i z → texts ≡ map canonical_text (take i zs) → text ≡ canonical_text z → now ≡ texts ++ text ∷ [] → now ≡ map canonical_text (take (i + 1) zs)
+text_made zs texts now i z text below is before made pushed =
+    pushed
+    ∙ (λ k. before k ++ (made ∙ ap canonical_text is) k ∷ [])
+    ∙ sym (map-append canonical_text (take i zs) (get_or zs i z ∷ []))
+    ∙ ap (map canonical_text) (sym (take_more zs i z below))

@@ -4,7 +4,7 @@ use Rattle.hy_terms.specs.Term.{Term}
 use Rattle.hy_terms.specs.Term as term
 use Rattle.hy_terms.specs.TermText.{term_text}
 use Rattle.hybrid_run.specs.Alone.{lines_of}
-use Rattle.hybrid_run.specs.Built.{IsBuilt}
+use Rattle.hybrid_run.specs.Built.{IsClosed}
 use Rattle.hy_core.specs.BuiltIn.{own_atoms, truth}
 use Rattle.hy_core.specs.Computation.{Input, Outcome, Values, Raised}
 use Rattle.hy_core.specs.Evaluation.{Wait}
@@ -65,28 +65,37 @@ abbrev pub displays : List Value → List (Event Term)
 displays values = map (λ v. Printed (term_of v)) values
 
 -- under these bindings the expression displays these values and ends so, wherever it stands
-pub record EvaluatesTo (e : Expr) (bindings : List Binding) (values : List Value) (ending : Ending) : Type 0 where
-  pub means : (program : List FunctionTree) (atoms : List (List ℕ)) (names : Names) (current pid : ℕ) (locals : List FunName) (supply : Supply) (calls : ℕ) (inputs : List (Input Term)) → IsBuilt names.atoms (variables_of bindings) e
-      → meaning program atoms names current pid locals supply calls (env_of bindings) e inputs ≡ record { events = displays values; calls = calls; inputs = inputs; end = outcome_of ending }
+pub record EvaluatesTo (e : Expr) (bindings : List Binding) (values : List Value) (ending : Ending)
+    : Type 0 where
+  pub means : (program : List FunctionTree) (atoms : List (List ℕ)) (names : Names)
+      (current pid : ℕ) (locals : List FunName) (supply : Supply) (calls : ℕ)
+      (inputs : List (Input Term))
+      → IsClosed names.atoms (variables_of bindings) e
+      → meaning program atoms names current pid locals supply calls (env_of bindings) e inputs
+      ≡ record { events = displays values; calls = calls; inputs = inputs; end = outcome_of ending }
 
 -- the values printed behind those before are what the expression displays, and it ends so
 abbrev pub Evaluates : Expr → List Binding → List Value → List Value → Ending → Type 0
-Evaluates e bindings before now ending = (values : List Value) × (now ≡ before ++ values) × EvaluatesTo e bindings values ending
+Evaluates e bindings before now ending =
+    (values : List Value) × (now ≡ before ++ values) × EvaluatesTo e bindings values ending
 
 -- the body of a `let`, where its one variable is bound to the value
-abbrev pub EvaluatesUnder : List ℕ → Value → Expr → List Binding → List Value → List Value → Ending → Type 0
-EvaluatesUnder (var ∷ []) value body bindings before now ending = Evaluates body (bindings ++ record { var = var; value = value } ∷ []) before now ending
+abbrev pub EvaluatesUnder : List ℕ → Value → Expr
+    → List Binding → List Value → List Value → Ending → Type 0
+EvaluatesUnder (var ∷ []) value body bindings before now ending =
+    Evaluates body (bindings ++ record { var = var; value = value } ∷ []) before now ending
 EvaluatesUnder _ value body bindings before now ending = ⊥
 
 -- the arguments of a call: one of `display`, two of `+`
 abbrev pub IsCall : List (List ℕ) → List ℕ → List Expr → Type 0
-IsCall atoms bound (x ∷ []) = IsBuilt atoms bound x
-IsCall atoms bound (x ∷ y ∷ []) = IsBuilt atoms bound x × IsBuilt atoms bound y
+IsCall atoms bound (x ∷ []) = IsClosed atoms bound x
+IsCall atoms bound (x ∷ y ∷ []) = IsClosed atoms bound x × IsClosed atoms bound y
 IsCall atoms bound _ = ⊥
 
 -- what a call comes to, whatever the numbers of its module and its name
 abbrev pub EvaluatesCall : List Expr → List Binding → List Value → List Value → Ending → Type 0
-EvaluatesCall args bindings before now ending = (m k : ℕ) → Evaluates (e.Call (e.Atom m) (e.Atom k) args) bindings before now ending
+EvaluatesCall args bindings before now ending =
+    (m k : ℕ) → Evaluates (e.Call (e.Atom m) (e.Atom k) args) bindings before now ending
 
 -- ---- what is written
 

@@ -1,11 +1,8 @@
 -- Trees of the arithmetic part: what they are built of, apart from any text. This project's own.
 use Rattle.std.specs.Prelude.{◌≡◌, ℕ, ℤ, List, [], ◌∷◌, codes, Some, Contains, slice_get}
-use Rattle.std.specs.List.{AllByRecursion}
-use Rattle.hy_terms.specs.Range.{IsNumber}
-use Rattle.hy_core.specs.declared.tables.Tables.{Tables}
-use Rattle.hy_core.specs.declared.tree.FunName.{FunName}
 use Rattle.hy_core.specs.declared.tree.Expr.{Expr}
 use Rattle.hy_core.specs.declared.tree.Expr.TheVariants as e
+use Rattle.hy_core.specs.declared.tree.Function.{Function}
 use Rattle.hy_core.specs.declared.tree.Module.{Module}
 
 abbrev pub the_main : List ℕ
@@ -24,32 +21,48 @@ the_display = codes "display"
 abbrev pub call : ℕ → ℕ → List Expr → Expr
 call m k args = e.Call (e.Atom m) (e.Atom k) args
 
--- a module of one function 'main'/0 with this body
-abbrev pub main_module : ℕ → List FunName → ℕ → Expr → Tables → Module
-main_module name exports main body s = record {
-  name = name;
-  exports = exports;
-  functions = record { name = record { name = main; arity = 0 }; params = []; body = body } ∷ [];
-  atoms = s.atoms;
-  variables = s.variables;
-}
+-- an atom is that of a text
+abbrev pub HasText : List (List ℕ) → ℕ → List ℕ → Type 0
+HasText atoms a text = slice_get atoms a ≡ Some text
 
--- 'main'/0, once or more, and nothing else
-abbrev pub ExportsMain : ℕ → List FunName → Type 0
-ExportsMain main exports = (exports ≡ [] → ⊥) × AllByRecursion (λ f. f ≡ record { name = main; arity = 0 }) exports
+-- An expression of the six forms alone: integers, variables, `let` of one variable, `do`, `+` and
+-- `display`. The texts of its atoms are these, and its variables are allowed, where the `let`s
+-- around bind those in the list, the last of them first.
+pub data IsBuilt (atoms : List (List ℕ)) (Allowed : List ℕ → ℕ → Type 0)
+    : List ℕ → Expr → Type 0 where
+  integer : {around : List ℕ} (n : ℤ) → IsBuilt atoms Allowed around (e.Int n)
+  variable : {around : List ℕ} (v : ℕ) → Allowed around v
+      → IsBuilt atoms Allowed around (e.Var v)
+  let_in : {around : List ℕ} {x y : Expr} (v : ℕ) → IsBuilt atoms Allowed around x
+      → IsBuilt atoms Allowed (v ∷ around) y → IsBuilt atoms Allowed around (e.Let (v ∷ []) x y)
+  do_both : {around : List ℕ} {x y : Expr} → IsBuilt atoms Allowed around x
+      → IsBuilt atoms Allowed around y → IsBuilt atoms Allowed around (e.Do x y)
+  sum : {around : List ℕ} {x y : Expr} (m k : ℕ) → HasText atoms m the_erlang
+      → HasText atoms k the_plus → IsBuilt atoms Allowed around x → IsBuilt atoms Allowed around y
+      → IsBuilt atoms Allowed around (call m k (x ∷ y ∷ []))
+  display : {around : List ℕ} {x : Expr} (m k : ℕ) → HasText atoms m the_erlang
+      → HasText atoms k the_display → IsBuilt atoms Allowed around x
+      → IsBuilt atoms Allowed around (call m k (x ∷ []))
 
--- an expression of the six forms, by the texts of the atoms, where the variables of these numbers are bound
-pub data IsBuilt : List (List ℕ) → List ℕ → Expr → Type 0 where
-  integer : {atoms : List (List ℕ)} {bound : List ℕ} (n : ℤ) → IsNumber n → IsBuilt atoms bound (e.Int n)
-  variable : {atoms : List (List ℕ)} {bound : List ℕ} (v : ℕ) → Contains bound v → IsBuilt atoms bound (e.Var v)
-  let_in : {atoms : List (List ℕ)} {bound : List ℕ} {x y : Expr} (v : ℕ) → IsBuilt atoms bound x → IsBuilt atoms (v ∷ bound) y → IsBuilt atoms bound (e.Let (v ∷ []) x y)
-  do_both : {atoms : List (List ℕ)} {bound : List ℕ} {x y : Expr} → IsBuilt atoms bound x → IsBuilt atoms bound y → IsBuilt atoms bound (e.Do x y)
-  sum : {atoms : List (List ℕ)} {bound : List ℕ} {x y : Expr} (module_atom name_atom : ℕ) → slice_get atoms module_atom ≡ Some the_erlang → slice_get atoms name_atom ≡ Some the_plus
-      → IsBuilt atoms bound x → IsBuilt atoms bound y → IsBuilt atoms bound (call module_atom name_atom (x ∷ y ∷ []))
-  display : {atoms : List (List ℕ)} {bound : List ℕ} {x : Expr} (module_atom name_atom : ℕ) → slice_get atoms module_atom ≡ Some the_erlang → slice_get atoms name_atom ≡ Some the_display
-      → IsBuilt atoms bound x → IsBuilt atoms bound (call module_atom name_atom (x ∷ []))
+-- any variable
+abbrev pub IsAny : List ℕ → ℕ → Type 0
+IsAny around v = Unit {0}
 
--- a module that exports 'main'/0 and nothing else, of that one function, whose body is such an expression and closed
-pub data IsBuiltModule : Module → Type 0 where
-  built : {name main : ℕ} {exports : List FunName} {x : Expr} {s : Tables} → slice_get s.atoms main ≡ Some the_main → ExportsMain main exports → IsBuilt s.atoms [] x
-      → IsBuiltModule (main_module name exports main x s)
+-- one that is bound
+abbrev pub IsBound : List ℕ → ℕ → Type 0
+IsBound around v = Contains around v
+
+-- the six forms alone, with any variables
+abbrev pub IsOfForms : List (List ℕ) → Expr → Type 0
+IsOfForms atoms x = IsBuilt atoms IsAny [] x
+
+-- these forms, where the variables of these numbers are bound
+abbrev pub IsClosed : List (List ℕ) → List ℕ → Expr → Type 0
+IsClosed atoms bound x = IsBuilt atoms IsBound bound x
+
+-- A module of one function, whose body is of these forms. In an accepted program this function is
+-- 'main'/0, and its body is closed.
+pub record IsBuiltModule (z : Module) : Type 0 where
+  pub f : Function
+  pub alone : z.functions ≡ f ∷ []
+  pub forms : IsOfForms z.atoms f.body

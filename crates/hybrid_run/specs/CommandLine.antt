@@ -9,13 +9,16 @@ is_option [] = false
 is_option (b ∷ []) = false
 is_option (b ∷ c ∷ bs) = b == 45
 
--- The words have these values of `--mode` and these files, each in order. A value is the next word, or follows `=` in the same word.
--- Behind the first `--` every word is a file.
+-- The words have these values of `--mode` and these files, each in order. A value is the next word,
+-- or follows `=` in the same word. Behind the first `--` every word is a file.
 pub data AreWords : List (List ℕ) → List (List ℕ) → List (List ℕ) → Type 0 where
   over : AreWords [] [] []
-  file : {word : List ℕ} {words modes files : List (List ℕ)} → is_option word ≡ false → AreWords words modes files → AreWords (word ∷ words) modes (word ∷ files)
-  value_next : {value : List ℕ} {words modes files : List (List ℕ)} → AreWords words modes files → AreWords (codes "--mode" ∷ value ∷ words) (value ∷ modes) files
-  value_inside : {value : List ℕ} {words modes files : List (List ℕ)} → AreWords words modes files → AreWords ((codes "--mode=" ++ value) ∷ words) (value ∷ modes) files
+  file : {word : List ℕ} {words modes files : List (List ℕ)} → is_option word ≡ false
+      → AreWords words modes files → AreWords (word ∷ words) modes (word ∷ files)
+  value_next : {value : List ℕ} {words modes files : List (List ℕ)} → AreWords words modes files
+      → AreWords (codes "--mode" ∷ value ∷ words) (value ∷ modes) files
+  value_inside : {value : List ℕ} {words modes files : List (List ℕ)} → AreWords words modes files
+      → AreWords ((codes "--mode=" ++ value) ∷ words) (value ∷ modes) files
   files_alone : {files : List (List ℕ)} → AreWords (codes "--" ∷ files) [] files
 
 -- the mode that the values of `--mode` give, of which there is one at most
@@ -41,4 +44,5 @@ IsUsage words = (mode : Mode) (files : List (List ℕ)) → IsCommand words mode
 
 -- the files that the words name; words that are no command line name none
 abbrev pub NameFiles : List (List ℕ) → List (List ℕ) → Type 0
-NameFiles words files = ((mode : Mode) × IsCommand words mode files) ⊎ (IsUsage words × (files ≡ []))
+NameFiles words files =
+    ((mode : Mode) × IsCommand words mode files) ⊎ (IsUsage words × (files ≡ []))

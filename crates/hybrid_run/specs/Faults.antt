@@ -25,7 +25,14 @@ kind_name k.TooDeep = codes "TooDeep"
 kind_name k.TooLong = codes "TooLong"
 
 abbrev pub refusal_text : List ℕ → RefusalKind → ℕ → List ℕ
-refusal_text name kind place = codes "hyb: " ++ name ++ codes ": " ++ kind_name kind ++ codes " at " ++ decimal place ++ 10 ∷ []
+refusal_text name kind place =
+    codes "hyb: "
+    ++ name
+    ++ codes ": "
+    ++ kind_name kind
+    ++ codes " at "
+    ++ decimal place
+    ++ 10 ∷ []
 
 -- a form, by its name
 abbrev pub form_name : Form → List ℕ
@@ -70,7 +77,8 @@ file_name files file = unwrap_or (slice_get files file) []
 abbrev pub text_of_fault : TopFault → List (List ℕ) → List ℕ
 text_of_fault Usage files = line (codes "hyb: usage")
 text_of_fault (Read file) files = read_fault_text (file_name files file)
-text_of_fault (Refused file refused) files = refusal_text (file_name files file) refused.kind refused.place
+text_of_fault (Refused file refused) files =
+    refusal_text (file_name files file) refused.kind refused.place
 text_of_fault (Lint fault) files = lint_text (file_name files fault.«module») fault
 text_of_fault NotBuilt files = line (codes "hyb: not built")
 text_of_fault Write files = line (codes "hyb: write failed")
@@ -92,38 +100,6 @@ abbrev pub IsOfOutput : TopFault → Type 0
 IsOfOutput Write = Unit {0}
 IsOfOutput Memory = Unit {0}
 IsOfOutput _ = ⊥
-
--- what may come of a module
-abbrev pub IsOfModule : TopFault → Type 0
-IsOfModule NotBuilt = Unit {0}
-IsOfModule Write = Unit {0}
-IsOfModule Memory = Unit {0}
-IsOfModule _ = ⊥
-
--- what may come of the file at this place
-abbrev pub IsOfFile : ℕ → TopFault → Type 0
-IsOfFile place (Read file) = file ≡ place
-IsOfFile place (Refused file refused) = file ≡ place
-IsOfFile place Memory = Unit {0}
-IsOfFile place _ = ⊥
-
--- what may come while the files are read
-abbrev pub IsOfLoading : TopFault → Type 0
-IsOfLoading (Read file) = Unit {0}
-IsOfLoading (Refused file refused) = Unit {0}
-IsOfLoading Memory = Unit {0}
-IsOfLoading _ = ⊥
-
--- what may come of the linter
-abbrev pub IsOfLinter : TopFault → Type 0
-IsOfLinter (Lint fault) = Unit {0}
-IsOfLinter Memory = Unit {0}
-IsOfLinter _ = ⊥
-
--- what may come of a command
-abbrev pub IsOfCommand : TopFault → Type 0
-IsOfCommand Usage = ⊥
-IsOfCommand _ = Unit {0}
 
 -- the status of the program for a fault
 abbrev pub status_of_fault : TopFault → ℕ
@@ -153,19 +129,9 @@ IsSilent (Lint fault) = Unit {0}
 IsSilent (Read file) = Unit {0}
 IsSilent _ = ⊥
 
--- a text, a program or a module that isn't run
-abbrev pub IsRefusal : TopFault → Type 0
-IsRefusal NotBuilt = Unit {0}
-IsRefusal (Refused file refused) = Unit {0}
-IsRefusal (Lint fault) = Unit {0}
-IsRefusal _ = ⊥
-
 -- it is this fault, unless one of so many files can't be read or memory runs out
 abbrev pub FailsWith : TopFault → ℕ → Option TopFault → Type 0
-FailsWith fault count refused = (refused ≡ Some fault) ⊎ ((file : ℕ) × (file < count) × (refused ≡ Some (Read file))) ⊎ (refused ≡ Some Memory)
-
--- the run began to write
-abbrev pub HasWritten : Result ℕ TopFault → Type 0
-HasWritten (Ok status) = Unit {0}
-HasWritten (Err Write) = Unit {0}
-HasWritten _ = ⊥
+FailsWith fault count refused =
+    (refused ≡ Some fault)
+    ⊎ ((file : ℕ) × (file < count) × (refused ≡ Some (Read file)))
+    ⊎ (refused ≡ Some Memory)

@@ -5,7 +5,7 @@ pub mod Built
 pub mod CommandLine
 pub mod Faults
 pub mod Headline
-pub mod Line
 pub mod Loading
 pub mod Meaning
-pub mod Parts
+pub mod Told
+pub mod code

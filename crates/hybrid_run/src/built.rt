@@ -1,117 +1,96 @@
-ghost use Rattle.std.specs.Prelude.{◌≡◌, ◌↔◌, [], reverse, Some, slice_get, IsTrue, IfOk, OnOk};
-ghost use Rattle.hybrid_run.specs.Built.{IsBuilt, IsBuiltModule, ExportsMain};
-ghost use Rattle.hybrid_run.specs.Arithmetic.{IsCall};
-ghost use Rattle.hybrid_run.specs.Parts.{IsAtomOf, IsBuiltUnder, IsOperation};
+ghost use Rattle.std.specs.Prelude.{◌≡◌, ◌↔◌, ◌∷◌, [], ℕ, List, IsTrue};
+ghost use Rattle.hybrid_run.specs.Built.{IsAny, HasText, IsBuilt, IsBuiltModule};
+ghost use Rattle.hybrid_run.specs.Headline.{IsBuiltFor};
+ghost use Rattle.hybrid_run.specs.code.Parts.{AreBuilt, IsAtomOf, IsBuiltUnder, IsOperation};
+ghost use Rattle.hybrid_run.specs.declared.command.Mode.TheVariants.{Run};
 
-use crate::evaluate::is_number;
-use hy_core::{Expr, FunName, Module};
-use hy_terms::{Atoms, Memory};
-use std::alloc::Global;
+use hy_core::{Expr, Module};
+use hy_terms::Atoms;
 
-/// Whether a module is one that runs: it exports `'main'/0` and nothing else, and has that one
-/// function, whose body is closed and of the arithmetic forms.
-pub fn is_built_module(alloc: Global, tree: &Module) -> Result<bool, Memory>
-    ensures { IfOk result (λ built. IsTrue built ↔ IsBuiltModule tree.now) }
+/// Whether an accepted program of these modules is one that runs: there is one module, of one
+/// function, whose body is of the six forms alone.
+pub fn is_built(modules: &[Module]) -> bool
+    ensures { IsTrue result ↔ IsBuiltFor Run modules.now }
 {
-    let [main] = tree.functions.as_slice() else {
-        return Ok(false);
-    };
-    if main.name.arity != 0
-        || !main.params.is_empty()
-        || !has_text(&tree.atoms, main.name.name, b"main")
-        || !exports_main(tree.exports.as_slice(), main.name.name)
-    {
-        return Ok(false);
+    match modules {
+        [module] => is_built_module(module),
+        _ => false,
     }
-    let mut bound = Vec::new(alloc);
-    is_built(&tree.atoms, &mut bound, &main.body)
 }
 
-/// Whether this name without parameters is exported, and nothing else is.
-fn exports_main(exports: &[FunName], main: u32) -> bool
-    ensures { IsTrue result ↔ ExportsMain main exports.now }
+// Whether a module has one function, whose body is of the six forms alone.
+fn is_built_module(module: &Module) -> bool
+    ensures { IsTrue result ↔ IsBuiltModule «module».now }
 {
-    !exports.is_empty()
-        && exports
-            .iter()
-            .all(|export| export.name == main && export.arity == 0)
+    match module.functions.as_slice() {
+        [main] => is_of_forms(&module.atoms, &main.body),
+        _ => false,
+    }
 }
 
-/// Whether an expression is of the arithmetic forms, where these variables are bound, the last of them
-/// innermost.
-#[cycle(is_built)]
-fn is_built(atoms: &Atoms, bound: &mut Vec<u32>, expr: &Expr) -> Result<bool, Memory>
-    ensures decides { IfOk result (λ built. IsTrue built ↔ IsBuilt atoms.now (reverse bound.old.items) expr.now) }
-    ensures bound { OnOk result (bound.new.items ≡ bound.old.items) }
+// Whether an expression is of the six forms alone.
+#[cycle(is_of_forms)]
+fn is_of_forms(atoms: &Atoms, expr: &Expr) -> bool
+    ensures { (around : List ℕ) → IsTrue result ↔ IsBuilt atoms.now IsAny around expr.now }
 {
     match expr {
-        Expr::Int(n) => Ok(is_number(*n)),
-        Expr::Var(var) => Ok(bound.as_slice().contains(var)),
+        Expr::Int(_) => true,
+        Expr::Var(_) => true,
         Expr::Let { vars, value, body } => {
-            if is_built(atoms, bound, value.get())? {
-                is_built_under(atoms, bound, vars.as_slice(), body.get())
+            if is_of_forms(atoms, value.get()) {
+                is_of_forms_under(atoms, vars.as_slice(), body.get())
             } else {
-                Ok(false)
+                false
             }
         }
         Expr::Do { first, second } => {
-            if is_built(atoms, bound, first.get())? {
-                is_built(atoms, bound, second.get())
+            if is_of_forms(atoms, first.get()) {
+                is_of_forms(atoms, second.get())
             } else {
-                Ok(false)
+                false
             }
         }
         Expr::Call { module, name, args } => {
             if is_operation(atoms, module.get(), name.get(), args.as_slice()) {
-                are_built(atoms, bound, args.as_slice())
+                are_of_forms(atoms, args.as_slice())
             } else {
-                Ok(false)
+                false
             }
         }
-        _ => Ok(false),
+        _ => false,
     }
 }
 
-/// Whether the body of a `let` of these variables is of the arithmetic forms.
-#[cycle(is_built)]
-fn is_built_under(
-    atoms: &Atoms,
-    bound: &mut Vec<u32>,
-    vars: &[u32],
-    body: &Expr,
-) -> Result<bool, Memory>
-    ensures decides { IfOk result (λ built. IsTrue built ↔ IsBuiltUnder atoms.now (reverse bound.old.items) vars.now body.now) }
-    ensures bound { OnOk result (bound.new.items ≡ bound.old.items) }
+// Whether there is one variable, and the body of its `let` is of the six forms alone.
+#[cycle(is_of_forms)]
+fn is_of_forms_under(atoms: &Atoms, vars: &[u32], body: &Expr) -> bool
+    ensures { (around : List ℕ) → IsTrue result ↔ IsBuiltUnder atoms.now around vars.now body.now }
 {
-    let [var] = vars else {
-        return Ok(false);
-    };
-    bound.push(*var)?;
-    let built = is_built(atoms, bound, body);
-    bound.pop();
-    built
+    match vars {
+        [_] => is_of_forms(atoms, body),
+        _ => false,
+    }
 }
 
-/// Whether the one argument of `display` or the two of `+` are of the arithmetic forms.
-#[cycle(is_built)]
-fn are_built(atoms: &Atoms, bound: &mut Vec<u32>, args: &[Expr]) -> Result<bool, Memory>
-    ensures decides { IfOk result (λ built. IsTrue built ↔ IsCall atoms.now (reverse bound.old.items) args.now) }
-    ensures bound { OnOk result (bound.new.items ≡ bound.old.items) }
+// Whether the one argument of `display` or the two of `+` are of the six forms alone.
+#[cycle(is_of_forms)]
+fn are_of_forms(atoms: &Atoms, args: &[Expr]) -> bool
+    ensures { (around : List ℕ) → IsTrue result ↔ AreBuilt atoms.now around args.now }
 {
     match args {
-        [shown] => is_built(atoms, bound, shown),
+        [shown] => is_of_forms(atoms, shown),
         [left, right] => {
-            if is_built(atoms, bound, left)? {
-                is_built(atoms, bound, right)
+            if is_of_forms(atoms, left) {
+                is_of_forms(atoms, right)
             } else {
-                Ok(false)
+                false
             }
         }
-        _ => Ok(false),
+        _ => false,
     }
 }
 
-/// Whether a call of this module and this name is `display` of one argument or `+` of two.
+// Whether a call of this module and this name is `display` of one argument or `+` of two.
 fn is_operation(atoms: &Atoms, module: &Expr, name: &Expr, args: &[Expr]) -> bool
     ensures { IsTrue result ↔ IsOperation atoms.now «module».now name.now args.now }
 {
@@ -122,7 +101,7 @@ fn is_operation(atoms: &Atoms, module: &Expr, name: &Expr, args: &[Expr]) -> boo
     }
 }
 
-/// Whether an expression is an atom of this text.
+// Whether an expression is an atom of this text.
 fn is_atom(atoms: &Atoms, expr: &Expr, text: &[u8]) -> bool
     ensures { IsTrue result ↔ IsAtomOf atoms.now expr.now text.now }
 {
@@ -133,7 +112,7 @@ fn is_atom(atoms: &Atoms, expr: &Expr, text: &[u8]) -> bool
 }
 
 fn has_text(atoms: &Atoms, atom: u32, text: &[u8]) -> bool
-    ensures { IsTrue result ↔ (slice_get atoms.now atom ≡ Some text.now) }
+    ensures { IsTrue result ↔ HasText atoms.now atom text.now }
 {
     atom < atoms.len() && atoms.text(atom) == text
 }

@@ -1,27 +1,40 @@
-ghost use Rattle.std.specs.Prelude.{◌≤◌, IfErr, OnOk, IsErrOf};
-ghost use Rattle.hybrid_run.specs.Faults.{IsOfOutput};
-ghost use Rattle.hybrid_run.specs.Headline.{canonical_texts};
+ghost use Rattle.std.specs.Prelude.{◌≡◌, ◌≤◌, map, IfOk, OnErr, OnOk};
+ghost use Rattle.hy_core.specs.Canonical.{canonical_text, one_after_another};
+ghost use Rattle.hybrid_run.specs.Headline.{Keeps};
 ghost use Rattle.outside.specs.Outside.{Appends, AppendsPrefix, Rises};
 
-use crate::fault::TopFault;
 use core_reader::print_module;
-use hy_core::Module;
+use hy_core::{Module, Text};
+use hy_terms::Memory;
 use outside::{Failed, Sink};
 use std::alloc::Global;
 
-/// Writes the canonical text of each module, in order, by one write each.
-pub fn write_texts<K: Sink>(alloc: Global, modules: &[Module], sink: &mut K) -> Result<(), TopFault>
-    ensures ok { OnOk result (Appends (K.written sink.old) (K.written sink.new) (canonical_texts modules.now)) }
-    ensures prefix { IsErrOf result TopFault.Write → AppendsPrefix (K.written sink.old) (K.written sink.new) (canonical_texts modules.now) }
-    ensures rises { IsErrOf result TopFault.Write → Rises (K.faults sink.old) (K.faults sink.new) }
-    ensures counts { K.faults sink.old ≤ K.faults sink.new }
-    ensures kinds { IfErr result IsOfOutput }
+/// The canonical text of each module, in order.
+pub fn texts_of(alloc: Global, modules: &[Module]) -> Result<Vec<Text>, Memory>
+    ensures { IfOk result (λ texts. texts.items ≡ map canonical_text modules.now) }
 {
+    let mut texts = Vec::new(alloc);
     for module in modules {
         let text = print_module(alloc, module)?;
+        texts.push(Text::from_vec(text))?;
+    }
+    Ok(texts)
+}
+
+/// Writes each text, in order, by one write each.
+pub fn write_texts<K: Sink>(texts: &[Text], sink: &mut K) -> Result<(), Failed>
+    ensures ok { OnOk result
+        (Appends (K.written sink.old) (K.written sink.new) (one_after_another texts.now)) }
+    ensures prefix { OnErr result
+        (AppendsPrefix (K.written sink.old) (K.written sink.new) (one_after_another texts.now)) }
+    ensures rises { OnErr result (Rises (K.faults sink.old) (K.faults sink.new)) }
+    ensures kept { Keeps (K.written sink.old) (K.written sink.new) }
+    ensures counts { K.faults sink.old ≤ K.faults sink.new }
+{
+    for text in texts {
         match sink.write(text.as_slice()) {
             Ok(()) => {}
-            Err(Failed) => return Err(TopFault::Write),
+            Err(Failed) => return Err(Failed),
         }
     }
     Ok(())

@@ -1,6 +1,6 @@
 ghost use Rattle.std.specs.Prelude.{◌≡◌, IfOk};
 ghost use Rattle.hybrid_run.specs.CommandLine.{NameFiles, is_option};
-ghost use Rattle.hybrid_run.specs.Line.{GivesCommand, GivesLine, command_in, ended, mode_named, no_words, with_any, with_value, with_word};
+ghost use Rattle.hybrid_run.specs.code.Line.{GivesCommand, GivesLine, command_in, ended, mode_named, no_words, with_any, with_value, with_word};
 
 use crate::fault::TopFault;
 use hy_terms::{Memory, Words};
@@ -43,7 +43,7 @@ pub struct Line {
 
 const MOST_FILES: u64 = 64;
 
-/// The file words of a command line, in order; words that aren't those of the command line have none.
+/// The file words of a command line, in order; words that are no command line have none.
 pub fn files(alloc: Global, words: &Words) -> Result<Words, Memory>
     ensures { IfOk result (λ files. NameFiles words.now files) }
 {
@@ -75,7 +75,7 @@ fn mode_of(value: &str) -> Option<Mode>
     }
 }
 
-/// Whether a word begins with `-` and isn't `-` alone.
+// Whether a word begins with `-` and isn't `-` alone.
 fn begins_option(word: &str) -> bool
     ensures { result ≡ is_option word.now }
 {
@@ -93,7 +93,7 @@ impl Line {
         }
     }
 
-    /// Takes the next word.
+    // Takes the next word.
     fn take(&mut self, word: &str) -> Result<(), TopFault>
         ensures { GivesLine result self.new (with_word self.old word.now) }
     {
@@ -104,7 +104,7 @@ impl Line {
         }
     }
 
-    /// Takes a word that may be an option.
+    // Takes a word that may be an option.
     fn take_any(&mut self, word: &str) -> Result<(), TopFault>
         ensures { GivesLine result self.new (with_any self.old word.now) }
     {
@@ -122,7 +122,7 @@ impl Line {
         Ok(())
     }
 
-    /// Takes the value of `--mode`, which stands at most once.
+    // Takes the value of `--mode`, which stands at most once.
     fn set_mode(&mut self, value: &str) -> Result<(), TopFault>
         ensures { GivesLine result self.new (with_value self.old value.now) }
     {
@@ -137,7 +137,7 @@ impl Line {
         Ok(())
     }
 
-    /// What the words ask for, where they are all.
+    // What the words ask for, where they are all.
     fn end(self) -> Result<Command, TopFault>
         ensures { GivesCommand result (ended self) }
     {

@@ -1,6 +1,6 @@
 ghost use Rattle.std.specs.Prelude.{◌≡◌, ◌↔◌, ℕ, List, [], ◌∷◌, ◌++◌, Contains, IsTrue, IfOk, OnOk, Some};
 ghost use Rattle.hy_terms.specs.Range.{IsNumber};
-ghost use Rattle.hybrid_run.specs.Built.{IsBuilt, IsBuiltModule};
+ghost use Rattle.hybrid_run.specs.Built.{IsClosed};
 ghost use Rattle.hy_core.specs.BuiltIn.{answer};
 ghost use Rattle.hy_core.specs.Evaluation.{answer_end};
 ghost use Rattle.hy_core.specs.Match.{lookup};
@@ -8,10 +8,12 @@ ghost use Rattle.hy_core.specs.declared.bif.Bif.TheVariants.{Add};
 ghost use Rattle.hybrid_run.specs.declared.value.Ending.TheVariants.{Gives};
 ghost use Rattle.hybrid_run.specs.declared.value.Value.TheVariants.{True};
 ghost use Rattle.hybrid_run.specs.Headline.{HasRun};
+ghost use Rattle.hybrid_run.specs.code.Ready.{IsReady};
+ghost use Rattle.hy_core.specs.declared.tree.Module.{Module};
 ghost use Rattle.hybrid_run.specs.Arithmetic.{term_of, outcome_of, env_of, variables_of, Evaluates, EvaluatesUnder, EvaluatesCall, IsCall};
 
 use crate::value::{Ending, Reason, Value};
-use hy_core::{Expr, Module};
+use hy_core::{Expr, Program};
 use hy_terms::{GREATEST_NUMBER, LEAST_NUMBER, Memory};
 use std::alloc::Global;
 
@@ -22,30 +24,27 @@ pub struct Binding {
     pub value: Value,
 }
 
-/// Whether a number is in the range of the language.
-pub fn is_number(n: i64) -> bool
-    ensures { IsTrue result ↔ IsNumber n }
-{
-    LEAST_NUMBER <= n && n <= GREATEST_NUMBER
-}
-
-/// What a module displays, in order, and how it ends.
+/// What a program displays, in order, and how it ends.
 #[derive(Drop)]
 pub struct Outcome {
     pub printed: Vec<Value>,
     pub ending: Ending,
 }
 
-/// Runs the one function of a module.
-pub fn evaluate_module(alloc: Global, tree: &Module) -> Result<Outcome, Memory>
-    requires { IsBuiltModule tree.now }
-    ensures { IfOk result (λ outcome. HasRun tree.now outcome.printed.items outcome.ending) }
+/// Runs the first function of a program of the six forms, which has its own numbers.
+pub fn evaluate_program(alloc: Global, program: &Program) -> Result<Outcome, Memory>
+    requires { (zs : List Module) × IsReady zs program.now }
+    ensures { (zs : List Module) → IsReady zs program.now →
+        IfOk result (λ outcome. HasRun zs outcome.printed.items outcome.ending) }
 {
-    let mut env = Vec::new(alloc);
-    let mut printed = Vec::new(alloc);
-    let [main] = tree.functions.as_slice() else {
+    let [module] = program.given.as_slice() else {
         unreachable!()
     };
+    let [main] = module.functions.as_slice() else {
+        unreachable!()
+    };
+    let mut env = Vec::new(alloc);
+    let mut printed = Vec::new(alloc);
     let ending = evaluate(&main.body, &mut env, &mut printed)?;
     Ok(Outcome { printed, ending })
 }
@@ -58,8 +57,9 @@ pub fn evaluate(
     env: &mut Vec<Binding>,
     printed: &mut Vec<Value>,
 ) -> Result<Ending, Memory>
-    requires { (atoms : List (List ℕ)) × IsBuilt atoms (variables_of env.old.items) expr.now }
-    ensures evaluates { IfOk result (λ ending. Evaluates expr.now env.old.items printed.old.items printed.new.items ending) }
+    requires { (atoms : List (List ℕ)) × IsClosed atoms (variables_of env.old.items) expr.now }
+    ensures evaluates { IfOk result (λ ending.
+        Evaluates expr.now env.old.items printed.old.items printed.new.items ending) }
     ensures env { OnOk result (env.new.items ≡ env.old.items) }
 {
     match expr {
@@ -84,7 +84,7 @@ pub fn evaluate(
     }
 }
 
-/// Evaluates the body of a `let` under its variable.
+// Evaluates the body of a `let` under its variable.
 #[cycle(evaluate)]
 fn evaluate_under(
     vars: &[u32],
@@ -93,8 +93,10 @@ fn evaluate_under(
     env: &mut Vec<Binding>,
     printed: &mut Vec<Value>,
 ) -> Result<Ending, Memory>
-    requires { (atoms : List (List ℕ)) × (var : ℕ) × (vars.now ≡ var ∷ []) × IsBuilt atoms (var ∷ variables_of env.old.items) body.now }
-    ensures evaluates { IfOk result (λ ending. EvaluatesUnder vars.now value body.now env.old.items printed.old.items printed.new.items ending) }
+    requires { (atoms : List (List ℕ)) × (var : ℕ) × (vars.now ≡ var ∷ []) ×
+        IsClosed atoms (var ∷ variables_of env.old.items) body.now }
+    ensures evaluates { IfOk result (λ ending. EvaluatesUnder vars.now value body.now
+        env.old.items printed.old.items printed.new.items ending) }
     ensures env { OnOk result (env.new.items ≡ env.old.items) }
 {
     let [var] = vars else { unreachable!() };
@@ -104,7 +106,7 @@ fn evaluate_under(
     ending
 }
 
-/// A call with one argument is `display`, and one with two is `+`: no other call is of these forms.
+// A call with one argument is `display`, and one with two is `+`: no other call is of these forms.
 #[cycle(evaluate)]
 fn evaluate_call(
     args: &[Expr],
@@ -112,7 +114,8 @@ fn evaluate_call(
     printed: &mut Vec<Value>,
 ) -> Result<Ending, Memory>
     requires { (atoms : List (List ℕ)) × IsCall atoms (variables_of env.old.items) args.now }
-    ensures evaluates { IfOk result (λ ending. EvaluatesCall args.now env.old.items printed.old.items printed.new.items ending) }
+    ensures evaluates { IfOk result (λ ending.
+        EvaluatesCall args.now env.old.items printed.old.items printed.new.items ending) }
     ensures env { OnOk result (env.new.items ≡ env.old.items) }
 {
     match args {
@@ -132,14 +135,16 @@ fn evaluate_call(
 }
 
 fn display(value: Value, printed: &mut Vec<Value>) -> Result<Ending, Memory>
-    ensures { IfOk result (λ ending. (ending ≡ Gives True) × (printed.new.items ≡ printed.old.items ++ value ∷ [])) }
+    ensures { IfOk result (λ ending.
+        (ending ≡ Gives True) × (printed.new.items ≡ printed.old.items ++ value ∷ [])) }
 {
     printed.push(value)?;
     Ok(Ending::Gives(Value::True))
 }
 
 fn sum(left: Value, right: Value) -> Ending
-    ensures { (atoms : List (List ℕ)) (pid : ℕ) → outcome_of result ≡ answer_end (answer atoms pid Add (term_of left ∷ term_of right ∷ [])) }
+    ensures { (atoms : List (List ℕ)) (pid : ℕ) →
+        outcome_of result ≡ answer_end (answer atoms pid Add (term_of left ∷ term_of right ∷ [])) }
 {
     match (left, right) {
         (Value::Int(left), Value::Int(right)) => match left.checked_add(right) {
@@ -150,7 +155,14 @@ fn sum(left: Value, right: Value) -> Ending
     }
 }
 
-/// The value of the innermost binding of a variable.
+// Whether a number is in the range of the language.
+fn is_number(n: i64) -> bool
+    ensures { IsTrue result ↔ IsNumber n }
+{
+    LEAST_NUMBER <= n && n <= GREATEST_NUMBER
+}
+
+// The value of the innermost binding of a variable.
 fn value_of(env: &[Binding], var: u32) -> Value
     requires { Contains (variables_of env.now) var }
     ensures { lookup var (env_of env.now) ≡ Some (term_of result) }

@@ -95,7 +95,8 @@ fn push_read_fault(text: &mut Vec<u8>, name: &str) -> Result<(), Memory>
 }
 
 fn push_refusal(text: &mut Vec<u8>, name: &str, refused: Refused) -> Result<(), Memory>
-    ensures { OnOk result (text.new.items ≡ text.old.items ++ refusal_text name.now refused.kind refused.place) }
+    ensures { OnOk result
+        (text.new.items ≡ text.old.items ++ refusal_text name.now refused.kind refused.place) }
 {
     let line = format!(in *text.allocator();
         "hyb: {}: {} at {}\n",

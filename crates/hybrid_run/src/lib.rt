@@ -7,15 +7,9 @@ mod command;
 mod evaluate;
 mod fault;
 mod lint;
-#[cfg(test)]
-mod lint_tests;
-#[cfg(test)]
-mod linted_tests;
 mod load;
 mod output;
 mod run;
-#[cfg(test)]
-mod tests;
 mod top;
 mod value;
 

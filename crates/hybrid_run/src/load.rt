@@ -1,11 +1,7 @@
-ghost use Rattle.std.specs.Prelude.{◌≡◌, ◌≤◌, ◌<◌, ℕ, List, length, slice_get, Some, IfOk, IfErr, IsErrOf};
+ghost use Rattle.std.specs.Prelude.{◌≡◌, ◌≤◌, ℕ, List, length, IfOk, IfErr};
 ghost use Rattle.hy_core.specs.Reading.{IsModuleText};
-ghost use Rattle.hy_core.specs.Refusals.{IsRefusedText};
-ghost use Rattle.hy_core.specs.declared.refusal.RefusalKind.{RefusalKind};
 ghost use Rattle.hybrid_run.specs.CommandLine.{most_files};
-ghost use Rattle.hybrid_run.specs.Faults.{IfNamesFile, IsOfFile, IsOfLoading, refused_at};
-ghost use Rattle.hybrid_run.specs.Loading.{AreReadWhereTold, IsReadWhereTold, IsRefusedWhereTold, PassBefore};
-ghost use Rattle.outside.specs.Outside.{Rises};
+ghost use Rattle.hybrid_run.specs.Loading.{AreReadWhereTold, IsReadWhereTold, StopsAt, StopsLoading, StopsParsing, sourced};
 
 use crate::fault::TopFault;
 use core_reader::{ReadAnswer, read_module};
@@ -22,12 +18,10 @@ pub fn load_all<S: Sources>(
 ) -> Result<Vec<Module>, TopFault>
     requires { length files.now ≤ most_files }
     ensures loaded { IfOk result (λ zs. AreReadWhereTold (S.told sources.old) files.now zs.items) }
-    ensures refused { (file : ℕ) (kind : RefusalKind) (place : ℕ) → IsErrOf result (refused_at file kind place) →
-        IsRefusedWhereTold (S.told sources.old) files.now file kind place }
-    ensures read { (file : ℕ) (name : List ℕ) → IsErrOf result (TopFault.Read file) → slice_get files.now file ≡ Some name →
-        Rises (S.faults sources.old name) (S.faults sources.new name) }
-    ensures before { IfErr result (λ fault. IfNamesFile fault (λ file. (file < length files.now) × PassBefore (S.told sources.old) files.now file)) }
-    ensures kinds { IfErr result IsOfLoading }
+    ensures stops { IfErr result (StopsLoading
+        (sourced (S.told sources.old) (S.faults sources.old) (S.faults sources.new)) files.now) }
+    ensures counts { (name : List ℕ) → S.faults sources.old name ≤ S.faults sources.new name }
+    ensures same { (name : List ℕ) → S.told sources.new name ≡ S.told sources.old name }
 {
     let mut modules = Vec::new(alloc);
     for place in 0..files.len() {
@@ -37,7 +31,7 @@ pub fn load_all<S: Sources>(
     Ok(modules)
 }
 
-/// Reads the text of the file at this place, and its module.
+// Reads the text of the file at this place, and its module.
 fn load<S: Sources>(
     alloc: Global,
     file: u32,
@@ -45,10 +39,9 @@ fn load<S: Sources>(
     sources: &mut S,
 ) -> Result<Module, TopFault>
     ensures loaded { IfOk result (λ z. IsReadWhereTold (S.told sources.old) name.now z) }
-    ensures refused { (kind : RefusalKind) (place : ℕ) → IsErrOf result (refused_at file kind place) →
-        (text : List ℕ) → S.told sources.old name.now ≡ Some text → IsRefusedText text kind place }
-    ensures read { IsErrOf result (TopFault.Read file) → Rises (S.faults sources.old name.now) (S.faults sources.new name.now) }
-    ensures kinds { IfErr result (IsOfFile file) }
+    ensures stops { IfErr result (StopsAt
+        (sourced (S.told sources.old) (S.faults sources.old) (S.faults sources.new))
+        file name.now) }
     ensures counts { (other : List ℕ) → S.faults sources.old other ≤ S.faults sources.new other }
     ensures same { (other : List ℕ) → S.told sources.new other ≡ S.told sources.old other }
 {
@@ -59,12 +52,10 @@ fn load<S: Sources>(
     }
 }
 
-/// The module of the text of the file at this place.
+// The module of the text of the file at this place.
 fn parse(alloc: Global, file: u32, text: &[u8]) -> Result<Module, TopFault>
     ensures loaded { IfOk result (λ z. IsModuleText text.now z) }
-    ensures refused { (kind : RefusalKind) (place : ℕ) → IsErrOf result (refused_at file kind place) → IsRefusedText text.now kind place }
-    ensures kinds { IfErr result (IsOfFile file) }
-    ensures never { IsErrOf result (TopFault.Read file) → ⊥ }
+    ensures stops { IfErr result (StopsParsing text.now file) }
 {
     match read_module(alloc, text) {
         Ok(module) => Ok(module),

@@ -1,97 +1,107 @@
-ghost use Rattle.std.specs.Prelude.{◌≡◌, [], ◌∷◌, IfOk, IfErr, IsErrOf};
-ghost use Rattle.hybrid_run.specs.Built.{IsBuiltModule};
-ghost use Rattle.hybrid_run.specs.Faults.{HasWritten, IsOfModule, IsOfOutput};
-ghost use Rattle.hybrid_run.specs.Headline.{Done, Cut, IsBuiltFor, IsDoneStatus};
-ghost use Rattle.outside.specs.Outside.{Rises};
+ghost use Rattle.std.specs.Prelude.{◌≡◌, ◌≤◌, List, IfOk, IfErr};
+ghost use Rattle.hy_core.specs.declared.tree.Module.{Module};
+ghost use Rattle.hybrid_run.specs.Faults.{IsSilent, fault_of_answer, status_of_answer};
+ghost use Rattle.hybrid_run.specs.Headline.{IsDoneStatus, Keeps, SaysOfModules, sunk};
+ghost use Rattle.hybrid_run.specs.code.Ready.{IsReady};
 
-use crate::built::is_built_module;
-use crate::check::write_texts;
+use crate::built::is_built;
+use crate::check::{texts_of, write_texts};
 use crate::command::Mode;
-use crate::evaluate::evaluate_module;
+use crate::evaluate::evaluate_program;
 use crate::fault::TopFault;
+use crate::lint::linted_program;
 use crate::output::write_output;
-use hy_core::Module;
-use outside::{Gate, Sink};
+use hy_core::{Module, Program};
+use outside::{Failed, Gate, Sink};
 use std::alloc::Global;
 
 /// Does what a mode does with the modules of the files. Answers the status.
 pub fn run_mode<K: Sink, G: Gate>(
     alloc: Global,
     mode: Mode,
-    modules: &[Module],
+    modules: Vec<Module>,
     sink: &mut K,
     gate: &G,
 ) -> Result<u8, TopFault>
-    ensures done { IfOk result (λ status. Done mode modules.now (K.written sink.old) (K.written sink.new) status) }
-    ensures built { HasWritten result → IsBuiltFor mode modules.now }
-    ensures cut { IsErrOf result TopFault.Write → Cut mode modules.now (K.written sink.old) (K.written sink.new) }
-    ensures rises { IsErrOf result TopFault.Write → Rises (K.faults sink.old) (K.faults sink.new) }
-    ensures not_built { IsErrOf result TopFault.NotBuilt → IsBuiltFor mode modules.now → ⊥ }
-    ensures silent { IsErrOf result TopFault.NotBuilt → K.written sink.new ≡ K.written sink.old }
-    ensures kinds { IfErr result IsOfModule }
+    ensures says { SaysOfModules mode modules.items
+        (sunk (K.written sink.old) (K.written sink.new) (K.faults sink.old) (K.faults sink.new))
+        (status_of_answer result) (fault_of_answer result) }
+    ensures kept { Keeps (K.written sink.old) (K.written sink.new) }
+    ensures counts { K.faults sink.old ≤ K.faults sink.new }
+    ensures silent { IfErr result
+        (λ fault. IsSilent fault → K.written sink.new ≡ K.written sink.old) }
     ensures status { IfOk result IsDoneStatus }
 {
     match mode {
-        Mode::Run => run_program(alloc, modules, sink, gate),
+        Mode::Run => run_modules(alloc, modules, sink, gate),
         Mode::Check => print_modules(alloc, modules, sink),
     }
 }
 
-/// Writes the canonical texts of the modules.
-fn print_modules<K: Sink>(alloc: Global, modules: &[Module], sink: &mut K) -> Result<u8, TopFault>
-    ensures done { IfOk result (λ status. Done Mode.Check modules.now (K.written sink.old) (K.written sink.new) status) }
-    ensures built { IsBuiltFor Mode.Check modules.now }
-    ensures cut { IsErrOf result TopFault.Write → Cut Mode.Check modules.now (K.written sink.old) (K.written sink.new) }
-    ensures rises { IsErrOf result TopFault.Write → Rises (K.faults sink.old) (K.faults sink.new) }
-    ensures kinds { IfErr result IsOfOutput }
+// Writes the canonical texts of the modules, where their program has no fault. They are made
+// first, since the program is given up to get its own numbers.
+fn print_modules<K: Sink>(alloc: Global, modules: Vec<Module>, sink: &mut K) -> Result<u8, TopFault>
+    ensures says { SaysOfModules Mode.Check modules.items
+        (sunk (K.written sink.old) (K.written sink.new) (K.faults sink.old) (K.faults sink.new))
+        (status_of_answer result) (fault_of_answer result) }
+    ensures kept { Keeps (K.written sink.old) (K.written sink.new) }
+    ensures counts { K.faults sink.old ≤ K.faults sink.new }
+    ensures silent { IfErr result
+        (λ fault. IsSilent fault → K.written sink.new ≡ K.written sink.old) }
     ensures status { IfOk result IsDoneStatus }
 {
-    write_texts(alloc, modules, sink)?;
-    Ok(0)
+    let texts = texts_of(alloc, modules.as_slice())?;
+    let _ = linted_program(alloc, modules)?;
+    match write_texts(texts.as_slice(), sink) {
+        Ok(()) => Ok(0),
+        Err(Failed) => Err(TopFault::Write),
+    }
 }
 
-/// Runs a program of one module, where that is of the arithmetic forms.
-fn run_program<K: Sink, G: Gate>(
+// Runs the program of the modules, where that has no fault and is of the six forms.
+fn run_modules<K: Sink, G: Gate>(
     alloc: Global,
-    modules: &[Module],
+    modules: Vec<Module>,
     sink: &mut K,
     gate: &G,
 ) -> Result<u8, TopFault>
-    ensures done { IfOk result (λ status. Done Mode.Run modules.now (K.written sink.old) (K.written sink.new) status) }
-    ensures built { HasWritten result → IsBuiltFor Mode.Run modules.now }
-    ensures cut { IsErrOf result TopFault.Write → Cut Mode.Run modules.now (K.written sink.old) (K.written sink.new) }
-    ensures rises { IsErrOf result TopFault.Write → Rises (K.faults sink.old) (K.faults sink.new) }
-    ensures not_built { IsErrOf result TopFault.NotBuilt → IsBuiltFor Mode.Run modules.now → ⊥ }
-    ensures silent { IsErrOf result TopFault.NotBuilt → K.written sink.new ≡ K.written sink.old }
-    ensures kinds { IfErr result IsOfModule }
+    ensures says { SaysOfModules Mode.Run modules.items
+        (sunk (K.written sink.old) (K.written sink.new) (K.faults sink.old) (K.faults sink.new))
+        (status_of_answer result) (fault_of_answer result) }
+    ensures kept { Keeps (K.written sink.old) (K.written sink.new) }
+    ensures counts { K.faults sink.old ≤ K.faults sink.new }
+    ensures silent { IfErr result
+        (λ fault. IsSilent fault → K.written sink.new ≡ K.written sink.old) }
     ensures status { IfOk result IsDoneStatus }
 {
-    let [module] = modules else {
-        return Err(TopFault::NotBuilt);
-    };
-    if is_built_module(alloc, module)? {
-        run_module(alloc, module, sink, gate)
+    let built = is_built(modules.as_slice());
+    let linted = linted_program(alloc, modules)?;
+    if built {
+        run_program(alloc, &linted.program, sink, gate)
     } else {
         Err(TopFault::NotBuilt)
     }
 }
 
-/// Runs a module of the arithmetic part in one slice of its process.
-fn run_module<K: Sink, G: Gate>(
+// Runs a program of the six forms, which has its own numbers, in one slice of its process.
+fn run_program<K: Sink, G: Gate>(
     alloc: Global,
-    tree: &Module,
+    program: &Program,
     sink: &mut K,
     gate: &G,
 ) -> Result<u8, TopFault>
-    requires { IsBuiltModule tree.now }
-    ensures done { IfOk result (λ status. Done Mode.Run (tree.now ∷ []) (K.written sink.old) (K.written sink.new) status) }
-    ensures cut { IsErrOf result TopFault.Write → Cut Mode.Run (tree.now ∷ []) (K.written sink.old) (K.written sink.new) }
-    ensures rises { IsErrOf result TopFault.Write → Rises (K.faults sink.old) (K.faults sink.new) }
-    ensures kinds { IfErr result IsOfOutput }
+    requires { (zs : List Module) × IsReady zs program.now }
+    ensures says { (zs : List Module) → IsReady zs program.now → SaysOfModules Mode.Run zs
+        (sunk (K.written sink.old) (K.written sink.new) (K.faults sink.old) (K.faults sink.new))
+        (status_of_answer result) (fault_of_answer result) }
+    ensures kept { Keeps (K.written sink.old) (K.written sink.new) }
+    ensures counts { K.faults sink.old ≤ K.faults sink.new }
+    ensures silent { IfErr result
+        (λ fault. IsSilent fault → K.written sink.new ≡ K.written sink.old) }
     ensures status { IfOk result IsDoneStatus }
 {
     gate.enter(0);
-    let outcome = evaluate_module(alloc, tree);
+    let outcome = evaluate_program(alloc, program);
     gate.leave(0);
     match outcome {
         Ok(outcome) => write_output(alloc, outcome.printed.as_slice(), outcome.ending, sink),

@@ -69,10 +69,11 @@ pub fn outcome_line(alloc: Global, ending: Ending) -> Result<Vec<u8>, Memory>
     Ok(line)
 }
 
-/// Appends the outcome line without its line feed.
+// Appends the outcome line without its line feed.
 #[tactic(auto, using(std::proofs::Common::append_assoc))]
 fn push_end(line: &mut Vec<u8>, ending: Ending) -> Result<(), Memory>
-    ensures { OnOk result (line.new.items ≡ line.old.items ++ (codes "0 " ++ end_text (end_of ending))) }
+    ensures { OnOk result
+        (line.new.items ≡ line.old.items ++ (codes "0 " ++ end_text (end_of ending))) }
 {
     match ending {
         Ending::Gives(value) => {

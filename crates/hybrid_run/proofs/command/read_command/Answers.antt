@@ -1,4 +1,4 @@
-use Rattle.hybrid_run.proofs.Answering.{residual_is}
+use Rattle.hybrid_run.proofs.Residuals.{residual_is}
 use Rattle.hybrid_run.proofs.CommandReading.{word_taken, word_refused}
 use Rattle.hybrid_run.proofs.command.read_command.Goals as goal
 

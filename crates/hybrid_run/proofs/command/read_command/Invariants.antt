@@ -1,5 +1,5 @@
 use Rattle.std.proofs.Common.{◌≡◌, drop}
-use Rattle.hybrid_run.specs.Line.{command_from, command_in}
+use Rattle.hybrid_run.specs.code.Line.{command_from, command_in}
 use Rattle.hybrid_run.proofs.command.read_command.Given as goal
 
 -- the words that are left give what all give

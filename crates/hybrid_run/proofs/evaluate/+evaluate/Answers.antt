@@ -1,6 +1,6 @@
 use Rattle.std.proofs.Common.{rules, ◌≡◌, ◌∷◌, [], refl, sym, subst, arith, length, w64, SFits}
 use Rattle.std.proofs.lemmas.Int.{to_z-of_z}
-use Rattle.hybrid_run.specs.Built.{IsBuilt}
+use Rattle.hybrid_run.specs.Built.{IsClosed}
 use Rattle.hy_core.specs.declared.tree.Expr.{Expr}
 use Rattle.hybrid_run.specs.Arithmetic.{variables_of}
 use Rattle.hybrid_run.specs.declared.value.Ending.TheVariants.{Gives, Raises}
@@ -66,7 +66,7 @@ evaluate-returns-in-Call-clause-evaluates t c =
     let env = c.args.env.now.items in
     let before = c.args.printed.now.items in
     let now = c.evaluate_call.new.printed.items in
-    let head = module_of c.requires.0 (variables_of env) c.in-Call.module c.in-Call.name c.in-Call.args (subst (λ (z : Expr). IsBuilt c.requires.0 (variables_of env) z) c.in-Call.is c.requires.1) in
+    let head = module_of c.requires.0 (variables_of env) c.in-Call.module c.in-Call.name c.in-Call.args (subst (λ (z : Expr). IsClosed c.requires.0 (variables_of env) z) c.in-Call.is c.requires.1) in
     if_ok c.evaluate_call.result
     (λ ending h. rw c.in-Call.is
     (call_evaluates c.in-Call.module c.in-Call.name c.in-Call.args env before now ending head.0 head.1 head.2 head.3

@@ -1,12 +1,18 @@
 use Rattle.std.proofs.Common.{◌∙◌, arith}
-use Rattle.hybrid_run.proofs.Answering.{residual_is}
-use Rattle.hybrid_run.proofs.Loaded.{behind_result, read_next}
+use Rattle.hybrid_run.specs.Loading.{StopsLoading, sourced}
+use Rattle.hybrid_run.proofs.Loaded.{read_next, stops_loading}
+use Rattle.hybrid_run.proofs.Residuals.{fault_handed_on}
 use Rattle.hybrid_run.proofs.load.load_all.Goals as goal
 
-pub returns-in_err-module-clause-before : goal.returns-in_err-module-clause-before
-returns-in_err-module-clause-before g c =
-    behind_result (g.S.Sources.told c.args.sources.now) c.args.files.now c.loop-place.place c.loop-place.modules.items c.in_err-module.field-0.0 c.from_residual.result
-    (residual_is c.from_residual.result c.in_err-module.field-0.0 c.from_residual.ensures.1) c.in_err-module.ensures.kinds (omega (arith, c.loop-place-test.true, c.len-place-end.ensures)) c.loop-place.invariant.read
+pub returns-in_err-module-clause-stops : goal.returns-in_err-module-clause-stops
+returns-in_err-module-clause-stops g c =
+    let told = g.S.Sources.told c.args.sources.now in
+    let first = g.S.Sources.faults c.args.sources.now in
+    let old = g.S.Sources.faults c.loop-place.sources in
+    let new = g.S.Sources.faults c.load.new.sources in
+    fault_handed_on (StopsLoading (sourced told first new) c.args.files.now) c.from_residual.result c.in_err-module.field-0.0 c.from_residual.ensures.1
+    (stops_loading told first old new (g.S.Sources.told c.loop-place.sources) c.args.files.now c.loop-place.place c.loop-place.modules.items c.word.result.now c.word.ensures
+    c.loop-place.invariant.same c.loop-place.invariant.counts c.loop-place.invariant.read c.in_err-module.field-0.0 c.in_err-module.ensures.stops)
 
 pub loop-place-preserved : goal.loop-place-preserved
 loop-place-preserved g c = record {

@@ -1,19 +1,24 @@
-use Rattle.std.proofs.Common.{Err, ap}
-use Rattle.hybrid_run.specs.Headline.{prints}
-use Rattle.hybrid_run.specs.declared.fault.TopFault.{TopFault}
-use Rattle.hybrid_run.specs.declared.fault.TopFault.TheVariants as f
-use Rattle.hybrid_run.proofs.Answering.{same_fault}
-use Rattle.hybrid_run.proofs.Doing.{printed_done, printed_cut}
+use Rattle.std.proofs.Common.{◌≡◌, ℕ, List, ap, map, subst, ◌∙◌}
+use Rattle.hy_core.specs.Canonical.{canonical_text, one_after_another}
+use Rattle.outside.specs.Outside.{Appends, AppendsPrefix}
+use Rattle.hybrid_run.specs.Headline.{sunk}
+use Rattle.hybrid_run.proofs.Doing.{printed_cut, printed_says}
 use Rattle.hybrid_run.proofs.run.print_modules.Goals as goal
 
-pub returns-in_err-write_texts-clause-built : goal.returns-in_err-write_texts-clause-built
-returns-in_err-write_texts-clause-built g c = prints
+pub returns-in-Ok-clause-says : goal.returns-in-Ok-clause-says
+returns-in-Ok-clause-says g c =
+    let before = g.K.Sink.written c.args.sink.now in
+    let now = g.K.Sink.written c.write_texts.new.sink in
+    let sink = sunk before now (g.K.Sink.faults c.args.sink.now) (g.K.Sink.faults c.write_texts.new.sink) in
+    let zs = c.args.modules.items in
+    let texts : c.as_slice-2.result.now ≡ map canonical_text zs = c.as_slice-2.ensures.value ∙ c.in_ok-texts.ensures ∙ ap (map canonical_text) c.as_slice.ensures.value in
+    printed_says zs sink c.in_ok-linted_program.ensures.accepted (subst (λ (ts : List (List ℕ)). Appends before now (one_after_another ts)) texts c.in-Ok.ensures.ok)
 
-pub returns-in_err-write_texts-clause-cut : goal.returns-in_err-write_texts-clause-cut
-returns-in_err-write_texts-clause-cut g c = λ is. printed_cut c.args.modules.now _ _ (c.in_err-write_texts.ensures.prefix (ap (λ (fault : TopFault). Err fault) (same_fault c.from_residual.result c.in_err-write_texts.field-0.0 f.Write c.from_residual.ensures.1 is)))
-
-pub returns-clause-done : goal.returns-clause-done
-returns-clause-done g c = printed_done c.args.modules.now _ _ c.in_ok-write_texts.ensures.ok
-
-pub returns-clause-built : goal.returns-clause-built
-returns-clause-built g c = prints
+pub returns-clause-says : goal.returns-clause-says
+returns-clause-says g c =
+    let before = g.K.Sink.written c.args.sink.now in
+    let now = g.K.Sink.written c.write_texts.new.sink in
+    let sink = sunk before now (g.K.Sink.faults c.args.sink.now) (g.K.Sink.faults c.write_texts.new.sink) in
+    let zs = c.args.modules.items in
+    let texts : c.as_slice-2.result.now ≡ map canonical_text zs = c.as_slice-2.ensures.value ∙ c.in_ok-texts.ensures ∙ ap (map canonical_text) c.as_slice.ensures.value in
+    printed_cut zs sink c.in_ok-linted_program.ensures.accepted (subst (λ (ts : List (List ℕ)). AppendsPrefix before now (one_after_another ts)) texts c.in-Err.ensures.prefix) c.in-Err.ensures.rises

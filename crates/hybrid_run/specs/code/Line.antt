@@ -1,5 +1,5 @@
 -- The words of the command line, one after the other.
-use Rattle.std.specs.Prelude.{◌≡◌, ℕ, ◌&&◌, nat_le, Bool, if◌then◌else◌, List, [], ◌∷◌, ◌++◌, codes, length, Option, Some, None, Result, Ok, Err}
+use Rattle.std.specs.Prelude.{◌≡◌, ℕ, ◌&&◌, nat_le, if◌then◌else◌, List, [], ◌∷◌, ◌++◌, codes, length, Option, Some, None, Result, Ok, Err}
 use Rattle.std.specs.Str.{bytes_eq}
 use Rattle.hybrid_run.specs.CommandLine.{is_option, most_files}
 use Rattle.hybrid_run.specs.declared.command.Command.{Command}
@@ -66,7 +66,8 @@ mode_or_run (Some mode) = mode
 
 -- there are 1 to 64 files
 abbrev pub command_of : Mode → List (List ℕ) → Option (Mode × List (List ℕ))
-command_of mode files = if nat_le 1 (length files) && nat_le (length files) most_files then Some (mode, files) else None
+command_of mode files =
+    if nat_le 1 (length files) && nat_le (length files) most_files then Some (mode, files) else None
 
 abbrev pub ended_at : Next → Line → Option (Mode × List (List ℕ))
 ended_at next.Value line = None
