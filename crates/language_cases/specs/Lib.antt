@@ -1,0 +1,5 @@
+pub mod Pieces
+pub mod Runs
+pub mod Tables
+pub mod Tokens
+pub mod Trees
