@@ -1,4 +1,5 @@
 pub mod ExtractedSyntax
+pub mod LiftedFunctions
 pub mod LiftedSyntax
 pub mod LiftedTrees
 pub mod LiftingLaws

@@ -2,3 +2,6 @@
 #![tactic(auto)]
 
 pub mod laws;
+mod lifted;
+
+pub use lifted::{Lifted, LiftedFunction};

@@ -1,0 +1,4 @@
+pub mod CapturedBy
+pub mod Counted
+pub mod Gathered
+pub mod GatheringLaws

@@ -1,0 +1,6 @@
+mod BindingLemmas
+mod BoundLemmas
+mod PartLemmas
+mod PatternLemmas
+mod RegisterLemmas
+mod TreeLemmas
