@@ -3,6 +3,7 @@ pub mod Acts
 pub mod Arity
 pub mod Checking
 pub mod Code
+pub mod Inclusions
 pub mod LabelledBuiltIns
 pub mod LabelledLaws
 pub mod Meaning

@@ -11,5 +11,6 @@ mod tests;
 mod validity;
 
 pub use code::{Arm, Code, CodeFunction, Constant, Guard, Last, Op, Part, Test, Tree};
+pub use flow_sets::{FlowSet, FlowTable, Inclusion};
 pub use place::{Turn, tree_at};
 pub use validity::validate;

@@ -1,0 +1,3 @@
+pub mod Least
+pub mod Table
+pub mod Targets
