@@ -7,7 +7,8 @@ ghost use Rattle.flow_sets.specs.declared.inclusion.Inclusion.{Inclusion as AnIn
 
 /// The least sets are closed under the inclusions, and contained in each family of sets that is.
 pub fn flow_is_least()
-    ensures closed { (rules : List AnInclusion) → IsClosed (Contains rules) (Flows (Contains rules)) }
+    ensures closed { (rules : List AnInclusion)
+        → IsClosed (Contains rules) (Flows (Contains rules)) }
     ensures least { (rules : List AnInclusion) (test : ASet → ℕ → Bool)
         → IsClosed (Contains rules) (λ X s. IsTrue (test X s))
         → (X : ASet) (s : ℕ) → Flows (Contains rules) X s → IsTrue (test X s) }

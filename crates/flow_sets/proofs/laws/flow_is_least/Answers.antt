@@ -6,4 +6,5 @@ pub returns-clause-closed : goal.returns-clause-closed
 returns-clause-closed c = λ rules. is_closed-Flows (Contains rules)
 
 pub returns-clause-least : goal.returns-clause-least
-returns-clause-least c = λ rules test h X s d. Flows-least (Contains rules) (λ Y t. IsTrue (test Y t)) h d
+returns-clause-least c =
+    λ rules test h X s d. Flows-least (Contains rules) (λ Y t. IsTrue (test Y t)) h d
