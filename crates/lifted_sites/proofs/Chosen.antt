@@ -102,9 +102,11 @@ pub inner_both : (n m : ℕ) (xs ys : List FunctionTree) (os ss : List ℕ) → 
 inner_both n m [] ys os ss many h g =
     let at : n + m ≡ n = omega (arith, many) in subst (λ n. Inner n ys os ss) at g
 inner_both n m (x ∷ xs) ys os ss many h g =
-    let at : n + m ≡ suc n + length xs = omega (arith, many) in
-    (h.0, inner_both (suc n) (length xs) xs ys os ss refl h.1
-        (subst (λ n. Inner n ys os ss) at g))
+    let at : n + m ≡ suc n + length xs = omega (arith, many) in (
+      h.0,
+      inner_both (suc n) (length xs) xs ys os ss refl h.1
+          (subst (λ n. Inner n ys os ss) at g),
+    )
 
 -- a part, and behind it another one
 pub shares_both : {k n m l : ℕ} {os ps ss ts own more : List ℕ} {xs ys : List FunctionTree}

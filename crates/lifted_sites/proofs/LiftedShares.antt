@@ -1,6 +1,6 @@
 -- The sites of an expression are shared out among the lifted one and the functions of its letrecs.
-use Rattle.std.proofs.Common.{◌≡◌, ℕ, suc, ◌+◌, ◌<◌, Bool, true, false, List, [], ◌∷◌, ◌++◌, Some, None}
-use Rattle.std.proofs.Common.{length, replicate, Option, refl, sym, ap, ◌∙◌, subst, append-nil, arith}
+use Rattle.std.proofs.Common.{◌≡◌, ℕ, suc, ◌+◌, ◌<◌, Bool, true, false, List, [], ◌∷◌, ◌++◌, Some}
+use Rattle.std.proofs.Common.{length, replicate, refl, sym, ap, ◌∙◌, subst, arith}
 use Rattle.std.specs.Prelude.{◌||◌, if◌then◌else◌}
 use Rattle.hy_core.specs.KnownTrees.{defined, width, IsCallable, IsKnown, AreKnown}
 use Rattle.hy_core.specs.KnownTrees.{ClausesAreKnown, FunctionsAreKnown}

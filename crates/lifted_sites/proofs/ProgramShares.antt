@@ -1,5 +1,5 @@
 -- The entries of a table of sites that name a function are the sites of its lifted tree.
-use Rattle.std.proofs.Common.{◌≡◌, ℕ, zero, suc, ◌+◌, ◌<◌, ◌≤◌, ◌==◌, Bool, true, false, List, [], ◌∷◌, ◌++◌, map}
+use Rattle.std.proofs.Common.{◌≡◌, ℕ, suc, ◌+◌, ◌≤◌, ◌==◌, List, [], ◌∷◌, ◌++◌, map}
 use Rattle.std.proofs.Common.{length, refl, sym, ap, ◌∙◌, subst, arith, inl, inr, if◌then◌else◌}
 use Rattle.std.proofs.lemmas.List.{length-append, map-append}
 use Rattle.std.proofs.lemmas.List.Elements.{All-head, All-tail}
@@ -12,10 +12,10 @@ use Rattle.hy_core.specs.declared.info.SiteInfo.{SiteInfo}
 use Rattle.lifted_numbers.proofs.Numbering.{sites_numbered}
 use Rattle.lifted_numbers.specs.TreeNumbers.{from, numbers}
 use Rattle.lifted_program.specs.LetrecNumbers.{count}
-use Rattle.lifted_program.specs.LiftedProgram.{extracted, extracted_program, lifted, lifted_program}
+use Rattle.lifted_program.specs.LiftedProgram.{extracted_program, lifted_program}
 use Rattle.lifted_program.specs.LiftedProgram.{lifted_tops}
 use Rattle.lifted_sites.specs.SiteLaws.{AreSitesOf, HaveOwnSites}
-use Rattle.lifted_sites.specs.SiteOwners.{owners, owners_from, program_owners}
+use Rattle.lifted_sites.specs.SiteOwners.{owners_from, program_owners}
 use Rattle.lifted_sites.proofs.Chosen.{Inner, Outside, Shares, both_none, chosen, in_first}
 use Rattle.lifted_sites.proofs.Chosen.{inner_both, inner_first, inner_second, sites_in}
 use Rattle.lifted_sites.proofs.LiftedShares.{shared}
@@ -98,7 +98,7 @@ module _ (arities : List ℕ) (captured : ℕ → List ℕ) where
       all_share (omega (arith, low, tops_long (n + count f.body) fs))
       (shared arities captured f.body (with_variables [] f.parameters) [] 1 [] k n (omega (arith, low))
       (λ g is. absurd cc) (All-head (IsKnownFunction arities) f fs known))
-      (functions_share (suc k) (n + count f.body) fs (omega (arith, low)) 
+      (functions_share (suc k) (n + count f.body) fs (omega (arith, low))
       (All-tail (IsKnownFunction arities) f fs known))
 
 -- the numbers of the sites of a table
