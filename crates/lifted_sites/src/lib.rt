@@ -1,0 +1,4 @@
+//! The functions in which the sites of a program stand.
+#![tactic(auto)]
+
+pub mod laws;
