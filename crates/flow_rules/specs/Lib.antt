@@ -1,0 +1,2 @@
+pub mod WorkedFlow
+pub mod WorkedInclusions
