@@ -16,8 +16,8 @@ use Rattle.lifted_numbers.specs.TreeNumbers.{functions_bare}
 use Rattle.lifted_program.specs.LetrecNumbers.{count, count_all, count_clauses, count_functions}
 use Rattle.lifted_program.specs.Renaming.{renamed, renamed_all, renamed_clauses}
 use Rattle.lifted_program.specs.Renaming.{renamed_functions, renamed_program}
-use Rattle.lifted_sites.specs.SiteOwners.{all_owners, clauses_owners, functions_owners}
-use Rattle.lifted_sites.specs.SiteOwners.{head_owners, owners, owners_from}
+use Rattle.number_owners.specs.SiteOwners.{all_owners, clauses_owners, functions_owners}
+use Rattle.number_owners.specs.SiteOwners.{head_owners, owners, owners_from}
 
 -- as many functions of letrecs, and the same owners
 record Same (e f : Expression) : Type 0 where

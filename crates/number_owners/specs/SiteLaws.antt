@@ -12,7 +12,7 @@ use Rattle.hy_core.specs.declared.tree.Program.{Program}
 use Rattle.lifted_numbers.specs.TreeNumbers.{numbers}
 use Rattle.lifted_program.specs.LiftedProgram.{lifted_program}
 use Rattle.lifted_program.specs.Renaming.{renamed_program}
-use Rattle.lifted_sites.specs.SiteOwners.{program_owners}
+use Rattle.number_owners.specs.SiteOwners.{program_owners}
 use Rattle.lifted_syntax.specs.LiftedFunctions.{own_sites}
 
 -- the entries of a table of sites are those of the trees, each with its number, its kind and the

@@ -29,10 +29,10 @@ use Rattle.lifted_numbers.specs.TreeNumbers.{bare_function}
 use Rattle.lifted_program.specs.LetrecNumbers.{count}
 use Rattle.lifted_program.specs.Renaming.{renamed_program}
 use Rattle.lifted_syntax.specs.LiftingLaws.{functions_resolved, modules_resolved}
-use Rattle.lifted_sites.specs.SiteLaws.{AcceptedProgramsHaveOwners}
-use Rattle.lifted_sites.specs.SiteOwners.{owners, owners_from, program_owners}
-use Rattle.lifted_sites.proofs.CountedOwners.{Numbers, both, nothing, sited, told_as}
-use Rattle.lifted_sites.proofs.SameOwners.{owners_bare, owners_renamed, program_sites_renamed}
+use Rattle.number_owners.specs.SiteLaws.{AcceptedProgramsHaveOwners}
+use Rattle.number_owners.specs.SiteOwners.{owners, owners_from, program_owners}
+use Rattle.number_owners.proofs.CountedOwners.{Numbers, both, nothing, sited, told_as}
+use Rattle.number_owners.proofs.SameOwners.{owners_bare, owners_renamed, program_sites_renamed}
 
 -- how many functions of letrecs stand in functions
 abbrev pub letrecs_in : List FunctionTree → ℕ

@@ -19,9 +19,9 @@ use Rattle.lifted_program.specs.LetrecNumbers.{count_functions, number_in, reach
 use Rattle.lifted_program.specs.LiftedProgram.{call_lifted, call_of, extracted, extracted_all}
 use Rattle.lifted_program.specs.LiftedProgram.{extracted_clauses, extracted_functions, lifted}
 use Rattle.lifted_program.specs.LiftedProgram.{lifted_all, lifted_clauses, passing}
-use Rattle.lifted_sites.specs.SiteOwners.{all_owners, clauses_owners, functions_owners, head_owners}
-use Rattle.lifted_sites.specs.SiteOwners.{owners}
-use Rattle.lifted_sites.proofs.Chosen.{Shares, no_sites, shares_both, shares_function, shares_own}
+use Rattle.number_owners.specs.SiteOwners.{all_owners, clauses_owners, functions_owners, head_owners}
+use Rattle.number_owners.specs.SiteOwners.{owners}
+use Rattle.number_owners.proofs.Chosen.{Shares, no_sites, shares_both, shares_function, shares_own}
 
 passed : (xs : List ℕ) (es : Expressions) → all_numbers (passing xs es) ≡ all_numbers es
 passed [] es = refl

@@ -37,8 +37,8 @@ use Rattle.core_accepted.proofs.ResolvedKnown.{count_resolved, count_spawned, cu
 use Rattle.core_accepted.proofs.ResolvedKnown.{inside_is, name, names, not_spawned, number, table}
 use Rattle.core_accepted.proofs.ResolvedKnown.{timeout_is}
 use Rattle.lifted_program.specs.LetrecNumbers.{count, count_all, count_clauses, count_functions}
-use Rattle.lifted_sites.specs.SiteOwners.{all_owners, clauses_owners, functions_owners}
-use Rattle.lifted_sites.specs.SiteOwners.{head_owners, owners}
+use Rattle.number_owners.specs.SiteOwners.{all_owners, clauses_owners, functions_owners}
+use Rattle.number_owners.specs.SiteOwners.{head_owners, owners}
 
 -- the functions that are named at the sites so far
 abbrev pub counted : Counts → List ℕ

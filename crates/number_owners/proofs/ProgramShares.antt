@@ -14,11 +14,11 @@ use Rattle.lifted_numbers.specs.TreeNumbers.{from, numbers}
 use Rattle.lifted_program.specs.LetrecNumbers.{count}
 use Rattle.lifted_program.specs.LiftedProgram.{extracted_program, lifted_program}
 use Rattle.lifted_program.specs.LiftedProgram.{lifted_tops}
-use Rattle.lifted_sites.specs.SiteLaws.{AreSitesOf, HaveOwnSites}
-use Rattle.lifted_sites.specs.SiteOwners.{owners_from, program_owners}
-use Rattle.lifted_sites.proofs.Chosen.{Inner, Outside, Shares, both_none, chosen, in_first}
-use Rattle.lifted_sites.proofs.Chosen.{inner_both, inner_first, inner_second, sites_in}
-use Rattle.lifted_sites.proofs.LiftedShares.{shared}
+use Rattle.number_owners.specs.SiteLaws.{AreSitesOf, HaveOwnSites}
+use Rattle.number_owners.specs.SiteOwners.{owners_from, program_owners}
+use Rattle.number_owners.proofs.Chosen.{Inner, Outside, Shares, both_none, chosen, in_first}
+use Rattle.number_owners.proofs.Chosen.{inner_both, inner_first, inner_second, sites_in}
+use Rattle.number_owners.proofs.LiftedShares.{shared}
 use Rattle.lifted_syntax.specs.LiftedFunctions.{own_sites}
 
 -- the sites of functions, in the order of the text
