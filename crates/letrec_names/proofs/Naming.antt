@@ -1,7 +1,8 @@
 -- The table of names, as functions are entered and left.
 use Rattle.std.proofs.Common.{◌≡◌, ℕ, ◌==◌, ◌&&◌, Bool, true, false, List, [], ◌∷◌, ◌++◌, reverse}
 use Rattle.std.proofs.Common.{Option, Some, None, unwrap_or, cond, refl, sym, ap, ◌∙◌, subst}
-use Rattle.std.proofs.Common.{eq-eqb, eqb-true, suc, ◌+◌, ◌-◌, ◌<◌, length, drop, length-drop, arith}
+use Rattle.std.proofs.Common.{eq-eqb, eqb-true, suc, ◌+◌, ◌-◌, ◌<◌, length, drop, length-drop}
+use Rattle.std.proofs.Common.{arith}
 use Rattle.std.specs.Prelude.{if◌then◌else◌, is_some}
 use Rattle.std.specs.Option.{IsSome}
 use Rattle.std.specs.Map.{lookup}

@@ -1,5 +1,5 @@
--- Counts that tell of each function of a letrec in a text how many such functions stand in its body.
--- This project's own.
+-- Counts that tell of each function of a letrec in a text how many such functions stand in its
+-- body. This project's own.
 use Rattle.std.specs.Prelude.{◌≡◌, ℕ, suc, ◌+◌, List, [], ◌∷◌}
 use Rattle.hy_core.specs.Numbered.{function_count}
 use Rattle.hy_core.specs.Syntax as s
@@ -62,4 +62,5 @@ CountsAreGiven = (ms : List Module) → GivesModules (program_counts ms) (functi
 -- by which the functions of a letrec have their numbers
 abbrev pub NumbersAreGiven : Type 0
 NumbersAreGiven =
-    (c : Counts) (n : ℕ) (fs : Definitions) → GivesDefinitions c n fs → numbered c n fs ≡ reach_of n fs
+    (c : Counts) (n : ℕ) (fs : Definitions) → GivesDefinitions c n fs
+    → numbered c n fs ≡ reach_of n fs

@@ -142,8 +142,8 @@ fn pass_definition(counts: &mut Vec<u32>, function: &Function) -> Result<(), Mem
 
 #[cycle(pass_expr)]
 fn pass_definitions(counts: &mut Vec<u32>, functions: &Items<Function>) -> Result<(), Memory>
-    ensures { OnOk result (counts.new.items
-        ≡ passed_definitions counts.old.items (definitions_of (map function_syntax functions.now))) }
+    ensures { OnOk result (counts.new.items ≡ passed_definitions counts.old.items
+        (definitions_of (map function_syntax functions.now))) }
 {
     for function in functions.as_slice() {
         pass_definition(counts, function)?;

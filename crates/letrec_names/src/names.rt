@@ -1,4 +1,20 @@
-ghost use Rattle.std.specs.Prelude.{◌≡◌, ℕ, ◌-◌, ◌<◌, [], ◌∷◌, ◌++◌, length, map, drop, if◌then◌else◌, IsSome, IfOk, OnErr, OnOk};
+ghost use Rattle.std.specs.Prelude.{
+  ◌≡◌,
+  ℕ,
+  ◌-◌,
+  ◌<◌,
+  [],
+  ◌∷◌,
+  ◌++◌,
+  length,
+  map,
+  drop,
+  if◌then◌else◌,
+  IsSome,
+  IfOk,
+  OnErr,
+  OnOk,
+};
 ghost use Rattle.hy_core.specs.Resolved.{is_name};
 ghost use Rattle.hy_core.specs.Syntax.{definitions_of};
 ghost use Rattle.hy_core.specs.declared.tree.FunName.{FunName as AnyName};
