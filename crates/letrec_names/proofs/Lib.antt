@@ -1,0 +1,5 @@
+pub mod FormSyntax
+pub mod Giving
+pub mod Naming
+pub mod PassedForms
+pub mod Passing

@@ -1,0 +1,4 @@
+pub mod CountsGiven
+pub mod NestedCounts
+pub mod Parts
+pub mod code
