@@ -1,2 +1,5 @@
+pub mod ChosenNumbers
+pub mod EventLaws
+pub mod EventOwners
 pub mod SiteLaws
 pub mod SiteOwners

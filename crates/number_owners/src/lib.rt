@@ -1,4 +1,4 @@
-//! The functions in which the sites of a program stand.
+//! The functions in which the sites and the events of a program stand.
 #![tactic(auto)]
 
 pub mod laws;
