@@ -32,9 +32,7 @@ module _ (c : Counts) (o : Owner) (w : Gathering) where
       entered ∙ ap (λ l. entering_by c w (definitions_of (map function_syntax l))) same in
       let behind : u ≡ walked_definitions c o (entering_by c w definitions) definitions =
       functions ∙ ap (λ v. walked_definitions c o v definitions) inside in
-      let whole
-      : t ≡ walked c o (walked_definitions c o (entering_by c w definitions) definitions) (syntax_of b) =
-      body ∙ (λ i. walked c o (behind i) (syntax_of (own i))) in
+      let whole = body ∙ (λ i. walked c o (behind i) (syntax_of (own i))) in
       left ∙ (λ i. leaving (high i) (whole i))
       ∙ sym (ap (walked c o w) (ap syntax_of is ∙ syntax-Letrec fs b))
 

@@ -224,7 +224,8 @@ module _ (c : Counts) where
   functions_are (f ∷ fs) w h =
       let e = syntax_of f.body in
       let inside = binding w f.params in
-      ap (λ u. walked_functions c (back_to (length w.scope) u) fs) (walked_is e outermost inside h.0)
+      ap (λ u. walked_functions c (back_to (length w.scope) u) fs)
+      (walked_is e outermost inside h.0)
       ∙ functions_are fs (gathered_function w f)
       (subst (λ n. GivesFunctions c n fs) (sym (next_is e outermost inside)) h.1)
 

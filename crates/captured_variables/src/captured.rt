@@ -49,10 +49,11 @@ fn gather_program(
     Ok(walk)
 }
 
-/// The variables that the functions of letrecs of a program capture, each with its function and the
-/// place of its outermost binding: what occurs in their own texts, and what comes by those that they
-/// use. The functions have their numbers in the program. One pass finds how many stand in each, one
-/// the facts; the members are then carried along the edges of the facts, each once along each.
+/// The variables that the functions of letrecs of a program capture, each with its function and
+/// the place of its outermost binding, counted from 1: what occurs in their own texts, and what
+/// comes by those that they use. The functions have their numbers in the program. One pass counts
+/// how many stand in each and one gathers the facts; each member is then carried once along each
+/// edge of these. `Memory` for want of memory, or where a number passes its type.
 pub fn captured_variables(alloc: Global, modules: &[Module]) -> Result<IndexSet<Member>, Memory>
     ensures exact { IfOk result (λ members. (m : AMember)
         → Contains members.keys m ↔ IsHad (Contains (program_facts modules.now)) m) }

@@ -105,8 +105,8 @@ impl Gathering {
 
     /// Enters the functions of a letrec.
     pub fn enter(&mut self, counts: &NestedCounts, functions: &[Function]) -> Result<(), Memory>
-        ensures { OnOk result (self.new
-            ≡ entering_by counts.now self.old (definitions_of (map function_syntax functions.now))) }
+        ensures { OnOk result (self.new ≡ entering_by counts.now self.old
+            (definitions_of (map function_syntax functions.now))) }
     {
         self.around.enter_functions(counts, self.next, functions)
     }

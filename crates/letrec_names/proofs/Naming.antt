@@ -1,6 +1,6 @@
 -- The table of names, as functions are entered and left.
 use Rattle.std.proofs.Common.{◌≡◌, ℕ, ◌==◌, ◌&&◌, Bool, true, false, List, [], ◌∷◌, ◌++◌, reverse}
-use Rattle.std.proofs.Common.{Option, Some, None, unwrap_or, cond, refl, sym, ap, ◌∙◌, subst}
+use Rattle.std.proofs.Common.{Option, Some, None, unwrap_or, cond, refl, ap, ◌∙◌}
 use Rattle.std.proofs.Common.{eq-eqb, eqb-true, suc, ◌+◌, ◌-◌, ◌<◌, length, drop, length-drop}
 use Rattle.std.proofs.Common.{arith}
 use Rattle.std.specs.Prelude.{if◌then◌else◌, is_some}
@@ -10,8 +10,8 @@ use Rattle.std.proofs.lemmas.List.{reverse-append, length-reverse, drop-drop}
 use Rattle.hy_core.specs.Resolved.{is_name}
 use Rattle.hy_core.specs.declared.tree.FunName.{FunName}
 use Rattle.indexmap.specs.IndexMap.{IndexMap, Updates, get}
-use Rattle.lifted_program.specs.LetrecNumbers.{Reach, number_in}
-use Rattle.letrec_names.specs.code.Entries.{Key, is_key, key_of, number_at, reach_in, Hide}
+use Rattle.lifted_program.specs.LetrecNumbers.{number_in}
+use Rattle.letrec_names.specs.code.Entries.{Key, is_key, key_of, number_at, reach_in}
 use Rattle.letrec_names.specs.code.Entries.{HasNumbers}
 use Rattle.letrec_names.specs.declared.names.Entry.{Entry}
 

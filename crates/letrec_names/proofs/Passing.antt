@@ -8,13 +8,9 @@ use Rattle.hy_core.specs.Syntax.{Syntax, Syntaxes, NoSyntax, MoreSyntax, syntax_
 use Rattle.hy_core.specs.Syntax.{Clauses, NoClauses, MoreClauses}
 use Rattle.hy_core.specs.Syntax.{Definitions, NoDefinitions, MoreDefinitions}
 use Rattle.hy_core.specs.Syntax.{ClauseSyntax, DefinitionSyntax, clauses_of, definitions_of}
-use Rattle.hy_core.specs.declared.tree.Clause.{Clause}
-use Rattle.hy_core.specs.declared.tree.Expr.{Expr}
-use Rattle.hy_core.specs.declared.tree.Expr.TheVariants as e
 use Rattle.hy_core.specs.declared.tree.Function.{Function}
 use Rattle.hy_core.specs.declared.tree.Module.{Module}
 use Rattle.lifted_syntax.specs.LiftedSyntax.{count, count_all, count_clauses, count_definitions}
-use Rattle.letrec_names.specs.Parts.{clause_syntax, function_syntax}
 use Rattle.letrec_names.specs.NestedCounts.{nested_counts, nested_counts_all}
 use Rattle.letrec_names.specs.NestedCounts.{nested_counts_clauses, nested_counts_definitions}
 use Rattle.letrec_names.specs.NestedCounts.{nested_counts_functions, nested_counts_modules}

@@ -2,7 +2,6 @@
 -- functions of a letrec with the numbers that these counts give them. This project's own.
 use Rattle.std.specs.Prelude.{ℕ, suc, ◌+◌, ◌-◌, nat_le, List, [], ◌∷◌, ◌++◌, get_or}
 use Rattle.std.specs.Prelude.{if◌then◌else◌}
-use Rattle.std.specs.List.{flat_map}
 use Rattle.hy_core.specs.Numbered.{function_count}
 use Rattle.hy_core.specs.Syntax as s
 use Rattle.hy_core.specs.Syntax.{Syntax, Syntaxes, NoSyntax, MoreSyntax, syntax_of}

@@ -1,5 +1,5 @@
--- The facts of a program, gathered as the code does: the functions of a letrec have the numbers that
--- the counts give.
+-- The facts of a program, gathered as the code does: the functions of a letrec have the numbers
+-- that the counts give.
 use Rattle.std.specs.Prelude.{ℕ, List, [], ◌∷◌, ◌++◌, length}
 use Rattle.hy_core.specs.Syntax as s
 use Rattle.hy_core.specs.Syntax.{Syntax, Syntaxes, NoSyntax, MoreSyntax, syntax_of}

@@ -6,7 +6,8 @@ use Rattle.letrec_names.specs.Parts.{clause_syntax, function_syntax}
 
 abbrev pub invariant-gather_each-loop-expr : goal.invariant-gather_each-loop-expr
 invariant-gather_each-loop-expr l =
-    walked_all l.counts l.owner l.walk (syntaxes_of (map syntax_of (drop l.expr-index l.expr-items)))
+    walked_all l.counts l.owner l.walk
+    (syntaxes_of (map syntax_of (drop l.expr-index l.expr-items)))
     ≡ walked_all l.counts l.owner l.fn.walk (syntaxes_of (map syntax_of l.expr-items))
 
 abbrev pub invariant-gather_clauses-loop-clause : goal.invariant-gather_clauses-loop-clause

@@ -1,5 +1,5 @@
-use Rattle.std.proofs.Common.{◌≡◌, ◌∙◌, ap, sym, subst, arith, reverse, [], ◌∷◌, ◌++◌}
-use Rattle.letrec_names.specs.code.Entries.{HasNumbers, reach_in}
+use Rattle.std.proofs.Common.{◌∙◌, ap, sym, subst, arith, reverse, [], ◌∷◌, ◌++◌}
+use Rattle.letrec_names.specs.code.Entries.{HasNumbers}
 use Rattle.letrec_names.specs.declared.names.Entry.{Entry}
 use Rattle.letrec_names.proofs.Naming.{entered, last_first, numbers_kept}
 use Rattle.letrec_names.proofs.names.LetrecNames.enter.Goals as goal

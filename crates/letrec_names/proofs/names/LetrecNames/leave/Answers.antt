@@ -1,4 +1,4 @@
-use Rattle.std.proofs.Common.{◌≡◌, ◌∙◌, ap, sym, subst, reverse, [], ◌∷◌, ◌++◌, drop}
+use Rattle.std.proofs.Common.{◌≡◌, ◌∙◌, ap, sym, subst, reverse, ◌∷◌, ◌++◌, drop}
 use Rattle.std.proofs.Common.{option_to_list}
 use Rattle.letrec_names.specs.code.Entries.{HasNumbers, reach_in}
 use Rattle.letrec_names.proofs.Naming.{innermost, last_first, left}
