@@ -144,14 +144,15 @@ impl LetrecNames {
         self.entries.len()
     }
 
-    /// The number of the innermost function of this name.
+    /// The number of the innermost function of this name and number of parameters; `None` where no
+    /// such function is around.
     pub fn number_of(&self, name: FunName) -> Option<u32>
         ensures { result ≡ number_in self.now name }
     {
         number_at(&self.numbers, name)
     }
 
-    /// Enters a function.
+    /// Enters a function, as the innermost one.
     pub fn enter(&mut self, name: FunName, number: u32) -> Result<(), Memory>
         ensures { OnOk result (self.new ≡ (name, number) ∷ self.old) }
     {
@@ -177,7 +178,9 @@ impl LetrecNames {
         Ok(())
     }
 
-    /// Enters the functions of a letrec, of which the first has this number.
+    /// Enters the functions of a letrec, of which the first has this number and the others those
+    /// that follow by the counts; the first one is innermost. `Memory` for want of memory, or where
+    /// a number passes its type.
     pub fn enter_functions(
         &mut self,
         counts: &NestedCounts,
