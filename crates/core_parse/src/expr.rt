@@ -1,16 +1,17 @@
 ghost use Rattle.std.specs.Prelude.{◌≡◌, IfOk};
-ghost use Rattle.hy_core.specs.Marks.{at};
 ghost use Rattle.hy_core.specs.Expressions.{string_expr};
-ghost use Rattle.core_parse.specs.code.Pushdown.{checked, expr_begun, expr_opened};
-ghost use Rattle.core_parse.specs.code.Verdicts.{GivesState};
+ghost use Rattle.hy_core.specs.Marks.{at};
 ghost use Rattle.hy_core.specs.declared.token.Token.TheVariants.{Symbol as SymbolToken};
+ghost use Rattle.core_parse.specs.code.Pushdown.{annotation_mark, checked, expr_begun, expr_opened, primop_begun};
+ghost use Rattle.core_parse.specs.code.Verdicts.{GivesState};
 
-use crate::answer::StepFault;
+use crate::goal::{Closer, Goal};
 use crate::interning::number_of;
 use crate::level::inside;
-use crate::number::integer;
-use crate::state::{Closer, Form, Goal, Part, State, Value};
-use hy_core::{Expr, RefusalKind, Symbol, Text, Token};
+use crate::number::{OUT_OF_RANGE, integer};
+use crate::state::State;
+use core_build::{Form, Part, StepFault, UNEXPECTED, Value};
+use hy_core::{Expr, Symbol, Text, Token};
 use sqlite_items::Items;
 use std::alloc::{AllocError, Global};
 
@@ -38,9 +39,7 @@ pub fn begin_expr(
     match token {
         Token::Integer(sign, digits) => {
             inside(level)?;
-            let n = integer(*sign, digits.as_slice()).ok_or(StepFault::Refused(
-                RefusalKind::NumberRange,
-            ))?;
+            let n = integer(*sign, digits.as_slice()).ok_or(OUT_OF_RANGE)?;
             state.values.push(Value::Expr(Expr::Int(n)))?;
         }
         Token::Character(code) => {
@@ -211,7 +210,30 @@ fn open_expr(alloc: Global, level: u32, symbol: Symbol, state: &mut State) -> Re
                 .goals
                 .push_all(&[Goal::Part(Part::Expr, inner), Goal::Note(level)])?;
         }
-        _ => return Err(StepFault::Refused(RefusalKind::Unexpected)),
+        _ => return Err(UNEXPECTED),
     }
     Ok(())
+}
+
+/// The first token of the name of a primitive operation.
+pub fn begin_primop(level: u32, token: &Token, state: &mut State) -> Result<(), StepFault>
+    ensures { GivesState result state.new
+        (checked (annotation_mark level token.now)
+        (primop_begun level state.old.goals state.old.values state.old.tables token.now)) }
+{
+    match token {
+        Token::Atom(text) => {
+            let atom = number_of(&mut state.tables.atoms, text.as_slice())?;
+            state.values.push(Value::Atom(atom))?;
+            Ok(())
+        }
+        Token::Symbol(Symbol::Open) => {
+            let inner = inside(level)?;
+            state
+                .goals
+                .push_all(&[Goal::Primop(inner), Goal::Note(level)])?;
+            Ok(())
+        }
+        _ => Err(UNEXPECTED),
+    }
 }
