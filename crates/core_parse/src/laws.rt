@@ -1,5 +1,7 @@
+//! Laws of texts and their verdicts. A function of these does nothing: its clause is the law.
+
 ghost use Rattle.std.specs.List.{AllByRecursion};
-ghost use Rattle.std.specs.Prelude.{◌^◌, ◌≡◌, ◌≤◌, List, length, ℕ};
+ghost use Rattle.std.specs.Prelude.{◌≡◌, ◌≤◌, ◌^◌, ◌⊎◌, ℕ, List, length};
 ghost use Rattle.hy_core.specs.Reading.{IsModuleText};
 ghost use Rattle.hy_core.specs.Refusals.{IsRefusedText};
 ghost use Rattle.hy_core.specs.declared.refusal.RefusalKind.{RefusalKind};
@@ -20,6 +22,12 @@ pub fn one_verdict()
     ensures one_refusal { (bytes : List ℕ) (kind other : RefusalKind) (place there : ℕ)
         → IsRefusedText bytes kind place → IsRefusedText bytes other there
         → (kind ≡ other) × (place ≡ there) }
+{}
+
+/// Each text is a module or is refused.
+pub fn some_verdict()
+    ensures { (bytes : List ℕ) → ((z : Module) × IsModuleText bytes z)
+        ⊎ ((kind : RefusalKind) × (place : ℕ) × IsRefusedText bytes kind place) }
 {}
 
 /// A text of spaces alone, an empty one too, ends where a module is to begin.

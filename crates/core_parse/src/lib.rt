@@ -9,6 +9,7 @@ mod answer;
 mod attribute;
 mod clause;
 mod constant;
+mod construct;
 mod export;
 mod expr;
 mod function;
@@ -31,5 +32,5 @@ mod symbol;
 mod variable;
 
 pub use answer::{ReadAnswer, Refused};
-pub use laws::{one_tree, one_verdict, spaces_are_no_module};
+pub use laws::{one_tree, one_verdict, some_verdict, spaces_are_no_module};
 pub use read::read_module;

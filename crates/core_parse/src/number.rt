@@ -6,6 +6,9 @@ use core_build::StepFault;
 use hy_core::{RefusalKind, Sign};
 use hy_terms::LEAST_NUMBER;
 
+/// A number out of range.
+pub const OUT_OF_RANGE: StepFault = StepFault::Refused(RefusalKind::NumberRange);
+
 // The size of the least number.
 const LARGEST_SIZE: u64 = (-LEAST_NUMBER) as u64;
 
@@ -57,6 +60,3 @@ pub fn arity(digits: &[u8]) -> Option<u32>
         None
     }
 }
-
-/// A number out of range.
-pub const OUT_OF_RANGE: StepFault = StepFault::Refused(RefusalKind::NumberRange);

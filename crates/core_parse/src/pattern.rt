@@ -46,9 +46,8 @@ pub fn begin_pattern(
         }
         Token::Character(code) => {
             inside(level)?;
-            state
-                .values
-                .push(Value::Pattern(Pattern::Int(i64::from(*code))))?;
+            let n = i64::from(*code);
+            state.values.push(Value::Pattern(Pattern::Int(n)))?;
         }
         Token::Atom(text) => {
             inside(level)?;
@@ -57,9 +56,8 @@ pub fn begin_pattern(
         }
         Token::Str(text) => {
             inside(level)?;
-            state
-                .values
-                .push(Value::Pattern(string(alloc, text.as_slice())?))?;
+            let x = string(alloc, text.as_slice())?;
+            state.values.push(Value::Pattern(x))?;
         }
         Token::Variable(name) => {
             inside(level)?;
