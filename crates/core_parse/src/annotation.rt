@@ -1,3 +1,4 @@
+ghost use Rattle.std.specs.Prelude.{Some};
 ghost use Rattle.hy_core.specs.Marks.{plain, symbol as symbol_mark};
 ghost use Rattle.core_parse.specs.code.Pushdown.{checked, goal_moved, note_rest};
 ghost use Rattle.core_parse.specs.code.Verdicts.{GivesState};
@@ -25,8 +26,7 @@ pub fn take_note(level: u32, token: &Token, state: &mut State) -> Result<(), Ste
 pub fn push_note_rest(level: u32, state: &mut State) -> Result<(), StepFault>
     ensures { GivesState result state.new
         (checked (symbol_mark symbols.NoteBar)
-        (Rattle.std.specs.Prelude.Some
-        (record {
+        (Some (record {
           goals = note_rest level state.old.goals;
           values = state.old.values;
           tables = state.old.tables;
