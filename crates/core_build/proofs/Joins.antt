@@ -17,7 +17,7 @@ use Rattle.hy_core.specs.declared.tree.Expr.TheVariants as e
 use Rattle.hy_core.specs.declared.tree.Expr.TheOpen as expr_layer
 use Rattle.hy_core.specs.declared.tree.Expr.TheViews.{out-Expr}
 use Rattle.hy_core.specs.declared.tree.Expr.TheViews as expr_views
-use Rattle.core_parse.specs.code.Trees.{behind_heads, behind_head_patterns}
+use Rattle.core_build.specs.code.Forms.{behind_heads, behind_head_patterns}
 
 -- ---- expressions
 

@@ -1,9 +1,9 @@
 ghost use Rattle.std.specs.Prelude.{◌≡◌, IfOk};
-ghost use Rattle.core_parse.specs.code.Tops.{top_expr, top_exprs, top_pattern, top_patterns, top_variable, top_variables, top_clauses, top_functions, top_name, top_names, top_atom, top_head, has_pattern as has_pattern_on};
-ghost use Rattle.core_parse.specs.code.Steps.{GivesTop};
+ghost use Rattle.core_build.specs.Steps.{GivesTop};
+ghost use Rattle.core_build.specs.Tops.{has_pattern as has_pattern_on, top_atom, top_clauses, top_expr, top_exprs, top_functions, top_head, top_name, top_names, top_pattern, top_patterns, top_variable, top_variables};
 
-use crate::answer::{StepFault, UNEXPECTED};
-use crate::state::{Head, Value};
+use crate::fault::{StepFault, UNEXPECTED};
+use crate::value::{Head, Value};
 use hy_core::{Clause, Expr, FunName, Function, Pattern};
 use sqlite_items::Items;
 use stack::Stack;

@@ -1,10 +1,9 @@
-ghost use Rattle.std.specs.Prelude.{◌≡◌};
-ghost use Rattle.core_parse.specs.code.Trees.{tuple_built, values_built, let_built, do_built, case_built, letrec_built, apply_built, call_built, primop_built, receive_built, try_built_of, try_built, catch_built, fun_built};
-ghost use Rattle.core_parse.specs.code.Steps.{GivesWhere};
+ghost use Rattle.core_build.specs.Steps.{GivesWhere};
+ghost use Rattle.core_build.specs.code.Forms.{apply_built, call_built, case_built, catch_built, do_built, fun_built, let_built, letrec_built, primop_built, receive_built, try_built, try_built_of, tuple_built, values_built};
 
-use crate::answer::StepFault;
+use crate::fault::StepFault;
 use crate::pop::{pop_atom, pop_clauses, pop_expr, pop_exprs, pop_functions, pop_variables};
-use crate::state::Value;
+use crate::value::Value;
 use hy_core::Expr;
 use sqlite_items::{Boxed, Items};
 use stack::Stack;

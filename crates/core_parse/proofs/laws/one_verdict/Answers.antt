@@ -1,5 +1,5 @@
 use Rattle.core_parse.proofs.OneVerdict.{no_module_is_refused, one_refusal}
-use Rattle.core_parse.proofs.read.one_verdict.Goals as goal
+use Rattle.core_parse.proofs.laws.one_verdict.Goals as goal
 
 pub returns-clause-no_module_is_refused : goal.returns-clause-no_module_is_refused
 returns-clause-no_module_is_refused c = λ bytes z kind place read refused. no_module_is_refused bytes z kind place read refused

@@ -1,10 +1,10 @@
 -- What the parts of the machine answer.
 use Rattle.std.specs.Prelude.{◌≡◌, List, Option, Some, None, Result, Ok, Err}
 use Rattle.hy_core.specs.declared.refusal.RefusalKind.TheVariants.{Unexpected}
-use Rattle.core_parse.specs.declared.answer.StepFault.{StepFault}
-use Rattle.core_parse.specs.declared.answer.StepFault.TheVariants as steps
-use Rattle.core_parse.specs.declared.state.Value.{Value}
-use Rattle.core_parse.specs.code.Tops.{Top}
+use Rattle.core_build.specs.declared.fault.StepFault.{StepFault}
+use Rattle.core_build.specs.declared.fault.StepFault.TheVariants as steps
+use Rattle.core_build.specs.declared.value.Value.{Value}
+use Rattle.core_build.specs.Tops.{Top}
 
 -- want of memory, or an unexpected token where there is none
 abbrev pub IsFault : StepFault → Type 0 → Type 0
@@ -20,9 +20,3 @@ GivesWhere (Err fault) r o = IsFault fault (o ≡ None)
 abbrev pub GivesTop : {A : Type 0} → Result A StepFault → List Value → Top A → Type 0
 GivesTop (Ok x) vs o = o ≡ Some (x, vs)
 GivesTop (Err fault) vs o = (fault ≡ steps.Refused Unexpected) × (o ≡ None)
-
--- this, or none, or want of memory
-abbrev pub GivesModule : {A : Type 0} → Result A StepFault → Option A → Type 0
-GivesModule (Ok z) o = o ≡ Some z
-GivesModule (Err (steps.Refused kind)) o = o ≡ None
-GivesModule (Err steps.Memory) o = Unit {0}

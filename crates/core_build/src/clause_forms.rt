@@ -1,13 +1,12 @@
-ghost use Rattle.std.specs.Prelude.{◌≡◌};
-ghost use Rattle.core_parse.specs.code.Trees.{one_variable_built, clause_built, function_built, pattern_tuple_built, alias_built, function_added, functions_kept, defined, definition_built};
-ghost use Rattle.core_parse.specs.code.Steps.{GivesWhere};
+ghost use Rattle.core_build.specs.Steps.{GivesWhere};
+ghost use Rattle.core_build.specs.code.Forms.{alias_built, clause_built, defined, definition_built, function_added, function_built, functions_kept, one_variable_built, pattern_tuple_built};
 
-use crate::answer::StepFault;
+use crate::fault::StepFault;
 use crate::pop::{
     pop_clauses, pop_expr, pop_functions, pop_head, pop_name, pop_pattern, pop_patterns,
     pop_variable, pop_variables,
 };
-use crate::state::{Head, Value};
+use crate::value::{Head, Value};
 use hy_core::{Clause, Expr, FunName, Function, Pattern, Tables};
 use sqlite_items::{Boxed, Items};
 use stack::Stack;

@@ -1,4 +1,4 @@
--- What is built of the values on top, each by its kind.
+-- What each form builds of the values on top, and what is put behind the parts before it.
 use Rattle.std.specs.Prelude.{ℕ, List, [], ◌∷◌, ◌++◌, Option, Some, None}
 use Rattle.hy_core.specs.Patterns.{joined_pattern}
 use Rattle.hy_core.specs.Expressions.{function, clause_of, joined}
@@ -8,15 +8,13 @@ use Rattle.hy_core.specs.declared.tree.Expr.TheVariants as e
 use Rattle.hy_core.specs.declared.tree.FunName.{FunName}
 use Rattle.hy_core.specs.declared.tree.Pattern.{Pattern}
 use Rattle.hy_core.specs.declared.tree.Pattern.TheVariants as p
-use Rattle.core_parse.specs.code.Tops.{with_top, top_expr, top_exprs, top_pattern, top_patterns, top_variable, top_variables, top_clauses, top_functions, top_name, top_names, top_atom, top_head}
-use Rattle.core_parse.specs.declared.state.Part.{Part}
-use Rattle.core_parse.specs.declared.state.Part.TheVariants as part
-use Rattle.core_parse.specs.declared.state.Form.{Form}
-use Rattle.core_parse.specs.declared.state.Form.TheVariants as f
-use Rattle.core_parse.specs.declared.state.Head.{Head}
-use Rattle.core_parse.specs.declared.state.Head.TheVariants as h
-use Rattle.core_parse.specs.declared.state.Value.{Value}
-use Rattle.core_parse.specs.declared.state.Value.TheVariants as v
+use Rattle.core_build.specs.Tops.{with_top, top_expr, top_exprs, top_pattern, top_patterns, top_variable, top_variables, top_clauses, top_functions, top_name, top_atom, top_head}
+use Rattle.core_build.specs.declared.form.Part.{Part}
+use Rattle.core_build.specs.declared.form.Part.TheVariants as part
+use Rattle.core_build.specs.declared.value.Head.{Head}
+use Rattle.core_build.specs.declared.value.Head.TheVariants as h
+use Rattle.core_build.specs.declared.value.Value.{Value}
+use Rattle.core_build.specs.declared.value.Value.TheVariants as v
 
 -- a list notation, whose heads stand behind these
 abbrev pub behind_heads : List Expr → Expr → Expr
@@ -153,40 +151,6 @@ joined_on part.Pattern vs = patterns_joined vs
 joined_on part.Constant vs = Some vs
 joined_on _ vs = None
 
-abbrev pub built : Form → List Value → Tables → Option (List Value × Tables)
-built f.OneVariable vs s = with_tables s (one_variable_built vs)
-built f.Tuple vs s = with_tables s (tuple_built vs)
-built f.Values vs s = with_tables s (values_built vs)
-built f.Let vs s = with_tables s (let_built vs)
-built f.Do vs s = with_tables s (do_built vs)
-built f.NoClauses vs s = Some (v.Clauses [] ∷ vs, s)
-built f.Case vs s = with_tables s (case_built vs)
-built f.Letrec vs s = with_tables s (letrec_built vs)
-built f.Apply vs s = with_tables s (apply_built vs)
-built f.Call vs s = with_tables s (call_built vs)
-built f.Primop vs s = with_tables s (primop_built vs)
-built f.Receive vs s = with_tables s (receive_built vs)
-built f.Try vs s = with_tables s (try_built vs)
-built f.Catch vs s = with_tables s (catch_built vs)
-built f.Fun vs s = with_tables s (fun_built vs)
-built f.Clause vs s = with_tables s (clause_built vs)
-built f.Function vs s = with_tables s (function_built vs)
-built f.NoFunctions vs s = Some (v.Functions [] ∷ vs, s)
-built f.Definition vs s = definition_built vs s
-built (f.Join k) vs s = with_tables s (joined_on k vs)
-built f.PatternTuple vs s = with_tables s (pattern_tuple_built vs)
-built f.Alias vs s = with_tables s (alias_built vs)
-
--- ---- lists of parts
-
--- the list of parts that is empty
-abbrev pub opened : Part → List Value → List Value
-opened part.Expr vs = v.Exprs [] ∷ vs
-opened part.Pattern vs = v.Patterns [] ∷ vs
-opened part.Variable vs = v.Variables [] ∷ vs
-opened part.Export vs = v.Names [] ∷ vs
-opened _ vs = vs
-
 abbrev pub expr_added : List Value → Built
 expr_added vs = with_top (top_expr vs)
     (λ x ws. with_top (top_exprs ws) (λ xs us. Some (v.Exprs (xs ++ x ∷ []) ∷ us)))
@@ -199,48 +163,9 @@ abbrev pub variable_added : List Value → Built
 variable_added vs = with_top (top_variable vs)
     (λ x ws. with_top (top_variables ws) (λ xs us. Some (v.Variables (xs ++ x ∷ []) ∷ us)))
 
--- a part behind those before it; an export stands there already, and nothing is kept of constants
--- and attributes
-abbrev pub added : Part → List Value → Built
-added part.Expr vs = expr_added vs
-added part.Pattern vs = pattern_added vs
-added part.Variable vs = variable_added vs
-added _ vs = Some vs
-
 abbrev pub exprs_closed : List Value → Built
 exprs_closed vs = with_top (top_exprs vs) (λ xs ws. expr_on ws (behind_heads xs e.Nil))
 
 abbrev pub patterns_closed : List Value → Built
 patterns_closed vs =
     with_top (top_patterns vs) (λ xs ws. Some (v.Pattern (behind_head_patterns xs p.Nil) ∷ ws))
-
--- the list notation of the heads so far, closed by its bracket
-abbrev pub closed : Part → List Value → Built
-closed part.Expr vs = exprs_closed vs
-closed part.Pattern vs = patterns_closed vs
-closed part.Constant vs = Some vs
-closed _ vs = None
-
--- the atom on top is an expression
-abbrev pub atom_built : List Value → Built
-atom_built vs = with_top (top_atom vs) (λ k ws. expr_on ws (e.Atom k))
-
--- ---- names and their arities
-
-abbrev pub name_built : ℕ → List Value → Built
-name_built n vs =
-    with_top (top_atom vs) (λ k ws. expr_on ws (e.Name (record { name = k; arity = n })))
-
-abbrev pub function_name_built : ℕ → List Value → Built
-function_name_built n vs =
-    with_top (top_atom vs) (λ k ws. Some (v.Name (record { name = k; arity = n }) ∷ ws))
-
-abbrev pub name_added : FunName → List Value → Built
-name_added name vs = with_top (top_names vs) (λ names ws. Some (v.Names (names ++ name ∷ []) ∷ ws))
-
-abbrev pub export_built : ℕ → List Value → Built
-export_built n vs = with_top (top_atom vs) (λ k ws. name_added (record { name = k; arity = n }) ws)
-
--- there are names on top
-abbrev pub names_kept : List Value → Built
-names_kept vs = with_top (top_names vs) (λ names ws. Some (v.Names names ∷ ws))

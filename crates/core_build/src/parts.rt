@@ -1,15 +1,17 @@
 ghost use Rattle.std.specs.Prelude.{◌≡◌, IfOk};
-ghost use Rattle.core_parse.specs.code.Trees.{opened, added, closed};
-ghost use Rattle.core_parse.specs.code.Trees.{expr_added, pattern_added, variable_added, exprs_closed, patterns_closed, atom_built};
-ghost use Rattle.core_parse.specs.code.Steps.{GivesWhere};
+ghost use Rattle.core_build.specs.Steps.{GivesWhere};
+ghost use Rattle.core_build.specs.Trees.{added, atom_built, closed, name_added, names_kept, opened};
+ghost use Rattle.core_build.specs.code.Forms.{expr_added, exprs_closed, pattern_added, patterns_closed, variable_added};
 
-use crate::answer::{StepFault, UNEXPECTED};
+use crate::fault::{StepFault, UNEXPECTED};
+use crate::form::Part;
 use crate::join::{list_of, pattern_list_of};
 use crate::pop::{
-    pop_atom, pop_expr, pop_exprs, pop_pattern, pop_patterns, pop_variable, pop_variables,
+    pop_atom, pop_expr, pop_exprs, pop_names, pop_pattern, pop_patterns, pop_variable,
+    pop_variables,
 };
-use crate::state::{Part, Value};
-use hy_core::{Expr, Pattern};
+use crate::value::Value;
+use hy_core::{Expr, FunName, Pattern};
 use sqlite_items::Items;
 use stack::Stack;
 use std::alloc::{AllocError, Global};
@@ -103,5 +105,24 @@ pub fn build_atom(values: &mut Stack<Value>) -> Result<(), StepFault>
 {
     let atom = pop_atom(values)?;
     values.push(Value::Expr(Expr::Atom(atom)))?;
+    Ok(())
+}
+
+/// Puts an exported name behind those before it.
+pub fn add_name(name: FunName, values: &mut Stack<Value>) -> Result<(), StepFault>
+    ensures { GivesWhere result values.new (name_added name values.old) }
+{
+    let mut names = pop_names(values)?;
+    names.push(name)?;
+    values.push(Value::Names(names))?;
+    Ok(())
+}
+
+/// Leaves the exported names that are on top.
+pub fn keep_names(values: &mut Stack<Value>) -> Result<(), StepFault>
+    ensures { GivesWhere result values.new (names_kept values.old) }
+{
+    let names = pop_names(values)?;
+    values.push(Value::Names(names))?;
     Ok(())
 }

@@ -5,10 +5,10 @@ use Rattle.hy_core.specs.declared.tree.Pattern.{Pattern}
 use Rattle.hy_core.specs.declared.tree.Clause.{Clause}
 use Rattle.hy_core.specs.declared.tree.Function.{Function}
 use Rattle.hy_core.specs.declared.tree.FunName.{FunName}
-use Rattle.core_parse.specs.declared.state.Head.{Head}
-use Rattle.core_parse.specs.declared.state.Head.TheVariants as h
-use Rattle.core_parse.specs.declared.state.Value.{Value}
-use Rattle.core_parse.specs.declared.state.Value.TheVariants as v
+use Rattle.core_build.specs.declared.value.Head.{Head}
+use Rattle.core_build.specs.declared.value.Head.TheVariants as h
+use Rattle.core_build.specs.declared.value.Value.{Value}
+use Rattle.core_build.specs.declared.value.Value.TheVariants as v
 
 -- a value and those below it
 abbrev pub Top : Type 0 → Type 0

@@ -1,8 +1,7 @@
-ghost use Rattle.std.specs.Prelude.{◌≡◌};
-ghost use Rattle.core_parse.specs.code.Trees.{built, joined_on};
-ghost use Rattle.core_parse.specs.code.Steps.{GivesWhere};
+ghost use Rattle.core_build.specs.Steps.{GivesWhere};
+ghost use Rattle.core_build.specs.Trees.{built};
+ghost use Rattle.core_build.specs.code.Forms.{joined_on};
 
-use crate::answer::{StepFault, UNEXPECTED};
 use crate::clause_forms::{
     build_alias, build_clause, build_definition, build_function, build_one_variable,
     build_pattern_tuple,
@@ -11,8 +10,10 @@ use crate::expr_forms::{
     build_apply, build_call, build_case, build_catch, build_do, build_fun, build_let, build_letrec,
     build_primop, build_receive, build_try, build_tuple, build_values,
 };
+use crate::fault::{StepFault, UNEXPECTED};
+use crate::form::{Form, Part};
 use crate::join::{build_join, build_pattern_join};
-use crate::state::{Form, Part, Value};
+use crate::value::Value;
 use hy_core::Tables;
 use sqlite_items::Items;
 use stack::Stack;

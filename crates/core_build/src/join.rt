@@ -1,13 +1,12 @@
-ghost use Rattle.std.specs.Prelude.{◌≡◌, [], IfOk};
-ghost use Rattle.core_parse.specs.code.Trees.{behind_heads, behind_head_patterns};
-ghost use Rattle.core_parse.specs.code.Trees.{exprs_joined, patterns_joined};
-ghost use Rattle.core_parse.specs.code.Steps.{GivesWhere};
+ghost use Rattle.std.specs.Prelude.{◌≡◌, IfOk};
 ghost use Rattle.hy_core.specs.Expressions.{joined};
 ghost use Rattle.hy_core.specs.Patterns.{joined_pattern};
+ghost use Rattle.core_build.specs.Steps.{GivesWhere};
+ghost use Rattle.core_build.specs.code.Forms.{behind_head_patterns, behind_heads, exprs_joined, patterns_joined};
 
-use crate::answer::StepFault;
+use crate::fault::StepFault;
 use crate::pop::{pop_expr, pop_exprs, pop_pattern, pop_patterns};
-use crate::state::Value;
+use crate::value::Value;
 use hy_core::{Expr, Pattern};
 use sqlite_items::{Boxed, Items};
 use stack::Stack;
