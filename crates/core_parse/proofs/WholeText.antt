@@ -293,7 +293,7 @@ abbrev IsModuleOrRefused : List ℕ → Type 0
 IsModuleOrRefused bytes = ((z : Module) × IsModuleText bytes z) ⊎ ((kind : RefusalKind) × (place : ℕ) × IsRefusedText bytes kind place)
 
 decided_by : (bytes : List ℕ) (ls : List Lexeme) (end : Ending) → length bytes ≤ 2 ^ 20 → Lexes bytes ls end → (v : Verdict) → Holds (length bytes) ls end v → IsModuleOrRefused bytes
-decided_by bytes ls end few lexes (Ok z) h = inl (z, few, (ls, subst (λ (o : Ending). Lexes bytes ls o) h.0 lexes, h.1))
+decided_by bytes ls end few lexes (Ok z) h = inl (z, (few, (ls, subst (λ (o : Ending). Lexes bytes ls o) h.0 lexes, h.1)))
 decided_by bytes ls end few lexes (Err fault) h = inr (fault.0, fault.1, refused_kind bytes fault.0 ls end fault.1 few lexes h)
 
 -- by the lexing that the scan gives
