@@ -1,11 +1,12 @@
-ghost use Rattle.std.specs.List.{AllZip};
+ghost use Rattle.std.specs.List.{AllByRecursion, AllZip};
 ghost use Rattle.std.specs.Prelude.{◌≡◌, IfOk, IsErrOf, OnOk};
 ghost use Rattle.hy_core.specs.Faults.{IsAccepted, IsLeastFault};
 ghost use Rattle.hy_core.specs.NameFaults.{modules_of};
 ghost use Rattle.hy_core.specs.Numbered.{numbered_program, program_sites};
+ghost use Rattle.hy_core.specs.PreludeModules.{prelude_modules};
 ghost use Rattle.hy_core.specs.Tables.{program_atoms, program_functions};
 ghost use Rattle.hy_core.specs.declared.tree.Program.{Program};
-ghost use Rattle.core_lint.specs.Linted.{IsLinted, KeepsText};
+ghost use Rattle.core_lint.specs.Linted.{IsLinted, IsOfText, KeepsText};
 
 use crate::answer::LintAnswer;
 use crate::kinds::first_in_kinds;
@@ -20,7 +21,7 @@ use std::alloc::Global;
 ///
 /// `atoms` is the table of the whole program, `functions` stands in the order of the functions'
 /// numbers, and `sites` in the order of the sites' numbers. Each value has come of an accepted
-/// program, by `of_accepted`.
+/// program, whose modules are the trees of texts and the prelude, by `of_accepted`.
 #[derive(Drop)]
 pub struct Linted {
     pub program: Program,
@@ -33,8 +34,11 @@ pub struct Linted {
 
 /// Gives an accepted program its own numbers and its tables. A program that isn't accepted is given
 /// up: `Fault` is its least fault, by kind, then by module, function and node, and then by form.
-/// `Memory` for want of memory.
+/// `Memory` for want of memory. What is given are the trees of texts, and the prelude is the one that
+/// each program has.
 pub fn lint(alloc: Global, program: Program) -> Result<Linted, LintAnswer>
+    requires read { AllByRecursion IsOfText program.given }
+    requires prelude { program.prelude ≡ prelude_modules }
     ensures accepted { OnOk result (IsAccepted program) }
     ensures program { IfOk result (λ linted. linted.program ≡ numbered_program program) }
     ensures atoms { IfOk result (λ linted. linted.atoms ≡ program_atoms program) }

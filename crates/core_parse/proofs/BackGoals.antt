@@ -11,12 +11,12 @@ use Rattle.hy_core.specs.declared.token.Token.{Token}
 use Rattle.hy_core.specs.declared.token.Token.TheVariants as t
 use Rattle.hy_core.specs.declared.tables.Tables.{Tables}
 use Rattle.hy_core.specs.declared.tree.Module.{Module}
-use Rattle.core_parse.specs.declared.state.Closer.{Closer}
-use Rattle.core_parse.specs.declared.state.Form.TheVariants as f
-use Rattle.core_parse.specs.declared.state.Goal.{Goal}
-use Rattle.core_parse.specs.declared.state.Goal.TheVariants as g
-use Rattle.core_parse.specs.declared.state.Value.{Value}
-use Rattle.core_parse.specs.declared.state.Value.TheVariants as v
+use Rattle.core_parse.specs.declared.goal.Closer.{Closer}
+use Rattle.core_build.specs.declared.form.Form.TheVariants as f
+use Rattle.core_parse.specs.declared.goal.Goal.{Goal}
+use Rattle.core_parse.specs.declared.goal.Goal.TheVariants as g
+use Rattle.core_build.specs.declared.value.Value.{Value}
+use Rattle.core_build.specs.declared.value.Value.TheVariants as v
 use Rattle.core_parse.specs.declared.state.State.{State}
 use Rattle.hy_core.specs.Patterns.{IsNotBefore}
 use Rattle.hy_core.specs.Expressions as exprs
@@ -24,8 +24,8 @@ use Rattle.hy_core.specs.Expressions.{named_by}
 use Rattle.hy_core.specs.Grammar as mods
 use Rattle.hy_core.specs.Grammar.{the_module_info, IsDropped}
 use Rattle.core_parse.specs.code.Pushdown.{state, closing, is_symbol, is_next, with_values, with_built, clause_begun, function_begun, definition_begun, info_arity_moved, info_export_moved, aliased_by, behind_note, clause_rest, goal_moved, annotation_mark, clause_mark, mark, settled}
-use Rattle.core_parse.specs.code.Trees.{built, atom_built}
-use Rattle.core_parse.specs.code.Tops.{with_top, top_pattern}
+use Rattle.core_build.specs.Trees.{built, atom_built}
+use Rattle.core_build.specs.Tops.{with_top, top_pattern}
 use Rattle.core_parse.proofs.Tests.{first_of, symbol_at, next_not}
 use Rattle.core_parse.proofs.Meaning.{Completes, OnBuilt, DefinedThen, ExportedThen}
 use Rattle.core_parse.proofs.Forth.{Moves}

@@ -9,14 +9,14 @@ use Rattle.hy_core.specs.declared.token.Token.{Token}
 use Rattle.hy_core.specs.declared.token.Token.TheVariants as t
 use Rattle.hy_core.specs.declared.tables.Tables.{Tables}
 use Rattle.hy_core.specs.declared.tree.Module.{Module}
-use Rattle.core_parse.specs.declared.state.Part.{Part}
-use Rattle.core_parse.specs.declared.state.Part.TheVariants as part
-use Rattle.core_parse.specs.declared.state.Closer.{Closer}
-use Rattle.core_parse.specs.declared.state.Form.TheVariants as f
-use Rattle.core_parse.specs.declared.state.Goal.{Goal}
-use Rattle.core_parse.specs.declared.state.Goal.TheVariants as g
-use Rattle.core_parse.specs.declared.state.Value.{Value}
-use Rattle.core_parse.specs.declared.state.Value.TheVariants as v
+use Rattle.core_build.specs.declared.form.Part.{Part}
+use Rattle.core_build.specs.declared.form.Part.TheVariants as part
+use Rattle.core_parse.specs.declared.goal.Closer.{Closer}
+use Rattle.core_build.specs.declared.form.Form.TheVariants as f
+use Rattle.core_parse.specs.declared.goal.Goal.{Goal}
+use Rattle.core_parse.specs.declared.goal.Goal.TheVariants as g
+use Rattle.core_build.specs.declared.value.Value.{Value}
+use Rattle.core_build.specs.declared.value.Value.TheVariants as v
 use Rattle.hy_core.specs.Patterns as pats
 use Rattle.hy_core.specs.Patterns.{IsNotBefore, IsPatternTail}
 use Rattle.hy_core.specs.Expressions as exprs
@@ -24,9 +24,10 @@ use Rattle.hy_core.specs.Expressions.{named_by, IsTail}
 use Rattle.hy_core.specs.Grammar as mods
 use Rattle.hy_core.specs.Grammar.{the_module_info, IsDropped}
 use Rattle.core_parse.specs.code.Pushdown.{state, closing, is_symbol, with_values, part_begun, goal_moved, part_mark, mark}
-use Rattle.core_parse.specs.code.Trees.{opened, added, closed, behind_heads, behind_head_patterns}
+use Rattle.core_build.specs.Trees.{opened, added, closed}
+use Rattle.core_build.specs.code.Forms.{behind_heads, behind_head_patterns}
 use Rattle.core_parse.proofs.Tests.{symbol_at, not_symbol}
-use Rattle.core_parse.proofs.Joins.{join_front, join_front_patterns}
+use Rattle.core_build.proofs.Joins.{join_front, join_front_patterns}
 use Rattle.core_parse.proofs.Meaning.{Completes}
 use Rattle.core_parse.proofs.Forth.{Moves}
 use Rattle.core_parse.proofs.Back.{if_back, at_symbol, constant_back, attribute_back, variable_back, pattern_back}

@@ -7,17 +7,17 @@ use Rattle.hy_core.specs.declared.token.Sign.TheVariants as sign
 use Rattle.hy_core.specs.declared.token.Token.{Token}
 use Rattle.hy_core.specs.declared.token.Token.TheVariants as t
 use Rattle.hy_core.specs.declared.tables.Tables.{Tables}
-use Rattle.core_parse.specs.declared.state.Part.{Part}
-use Rattle.core_parse.specs.declared.state.Part.TheVariants as part
-use Rattle.core_parse.specs.declared.state.Closer.{Closer}
-use Rattle.core_parse.specs.declared.state.Form.TheVariants as f
-use Rattle.core_parse.specs.declared.state.Goal.{Goal}
-use Rattle.core_parse.specs.declared.state.Goal.TheVariants as g
-use Rattle.core_parse.specs.declared.state.Value.{Value}
-use Rattle.core_parse.specs.declared.state.Value.TheVariants as v
+use Rattle.core_build.specs.declared.form.Part.{Part}
+use Rattle.core_build.specs.declared.form.Part.TheVariants as part
+use Rattle.core_parse.specs.declared.goal.Closer.{Closer}
+use Rattle.core_build.specs.declared.form.Form.TheVariants as f
+use Rattle.core_parse.specs.declared.goal.Goal.{Goal}
+use Rattle.core_parse.specs.declared.goal.Goal.TheVariants as g
+use Rattle.core_build.specs.declared.value.Value.{Value}
+use Rattle.core_build.specs.declared.value.Value.TheVariants as v
 use Rattle.core_parse.specs.declared.state.State.{State}
 use Rattle.core_parse.specs.code.Pushdown.{closing, on, is_symbol, is_next, is_info, with_built, part_begun, expr_begun, pattern_begun, constant_begun, variable_begun, export_begun, key_begun, value_begun, primop_begun, function_begun, definition_begun, body_begun, clause_begun, module_begun, aliased_by, goal_moved, settled, finished_from}
-use Rattle.core_parse.specs.code.Trees.{built}
+use Rattle.core_build.specs.Trees.{built}
 use Rattle.hy_core.specs.declared.tree.FunName.{FunName}
 use Rattle.hy_core.specs.declared.tree.Function.{Function}
 use Rattle.hy_core.specs.declared.tree.Clause.{Clause}

@@ -11,23 +11,24 @@ use Rattle.hy_core.specs.declared.token.Token.{Token}
 use Rattle.hy_core.specs.declared.token.Token.TheVariants as t
 use Rattle.hy_core.specs.declared.tables.Tables.{Tables}
 use Rattle.hy_core.specs.declared.tree.Module.{Module}
-use Rattle.core_parse.specs.declared.state.Part.{Part}
-use Rattle.core_parse.specs.declared.state.Part.TheVariants as part
-use Rattle.core_parse.specs.declared.state.Closer.{Closer}
-use Rattle.core_parse.specs.declared.state.Closer.TheVariants as closer
-use Rattle.core_parse.specs.declared.state.Form.TheVariants as f
-use Rattle.core_parse.specs.declared.state.Goal.{Goal}
-use Rattle.core_parse.specs.declared.state.Goal.TheVariants as g
-use Rattle.core_parse.specs.declared.state.Value.{Value}
-use Rattle.core_parse.specs.declared.state.Value.TheVariants as v
+use Rattle.core_build.specs.declared.form.Part.{Part}
+use Rattle.core_build.specs.declared.form.Part.TheVariants as part
+use Rattle.core_parse.specs.declared.goal.Closer.{Closer}
+use Rattle.core_parse.specs.declared.goal.Closer.TheVariants as closer
+use Rattle.core_build.specs.declared.form.Form.TheVariants as f
+use Rattle.core_parse.specs.declared.goal.Goal.{Goal}
+use Rattle.core_parse.specs.declared.goal.Goal.TheVariants as g
+use Rattle.core_build.specs.declared.value.Value.{Value}
+use Rattle.core_build.specs.declared.value.Value.TheVariants as v
 use Rattle.core_parse.specs.declared.state.State.{State}
 use Rattle.hy_core.specs.Patterns as pats
 use Rattle.hy_core.specs.Patterns.{IsVariable, AreVariables, AreMoreVariables, BindsValues, IsNotBefore, IsAliased, IsPattern, ArePatterns, AreMorePatterns, IsPatternList, IsPatternEnd, IsPatternTail}
 use Rattle.core_parse.specs.code.Pushdown.{closing, part_begun, constant_begun, variable_begun, pattern_begun, key_begun, value_begun, primop_begun, goal_moved, parts_moved, part_mark, annotation_mark, value_mark, mark}
-use Rattle.core_parse.specs.code.Trees.{opened, behind_head_patterns}
+use Rattle.core_build.specs.Trees.{opened}
+use Rattle.core_build.specs.code.Forms.{behind_head_patterns}
 use Rattle.core_parse.proofs.Tests.{Opens, not_closing, is_itself, is_not}
 use Rattle.core_parse.proofs.Meaning.{Completes}
-use Rattle.core_parse.proofs.Joins.{join_front_patterns}
+use Rattle.core_build.proofs.Joins.{join_front_patterns}
 use Rattle.hy_core.specs.declared.tree.Pattern.{Pattern}
 use Rattle.hy_core.specs.declared.tree.Pattern.TheVariants as p
 

@@ -11,14 +11,14 @@ use Rattle.hy_core.specs.declared.token.Symbol.TheVariants as w
 use Rattle.hy_core.specs.declared.token.Token.TheVariants as t
 use Rattle.hy_core.specs.declared.tables.Tables.{Tables}
 use Rattle.hy_core.specs.declared.tree.Module.{Module}
-use Rattle.core_parse.specs.declared.state.Part.TheVariants as part
-use Rattle.core_parse.specs.declared.state.Closer.{Closer}
-use Rattle.core_parse.specs.declared.state.Closer.TheVariants as closer
-use Rattle.core_parse.specs.declared.state.Form.TheVariants as f
-use Rattle.core_parse.specs.declared.state.Goal.{Goal}
-use Rattle.core_parse.specs.declared.state.Goal.TheVariants as g
-use Rattle.core_parse.specs.declared.state.Value.{Value}
-use Rattle.core_parse.specs.declared.state.Value.TheVariants as v
+use Rattle.core_build.specs.declared.form.Part.TheVariants as part
+use Rattle.core_parse.specs.declared.goal.Closer.{Closer}
+use Rattle.core_parse.specs.declared.goal.Closer.TheVariants as closer
+use Rattle.core_build.specs.declared.form.Form.TheVariants as f
+use Rattle.core_parse.specs.declared.goal.Goal.{Goal}
+use Rattle.core_parse.specs.declared.goal.Goal.TheVariants as g
+use Rattle.core_build.specs.declared.value.Value.{Value}
+use Rattle.core_build.specs.declared.value.Value.TheVariants as v
 use Rattle.hy_core.specs.Patterns as pats
 use Rattle.hy_core.specs.Patterns.{AreVariables, BindsValues, IsNotBefore, IsPattern, ArePatterns}
 use Rattle.hy_core.specs.Expressions as exprs
@@ -26,10 +26,10 @@ use Rattle.hy_core.specs.Expressions.{named_by, IsExpr, AreExprs, AreMoreExprs, 
 use Rattle.hy_core.specs.Grammar as mods
 use Rattle.hy_core.specs.Grammar.{the_module_info, IsDropped, IsExport, AreExports, AreMoreExports, AreDefinitions, IsModuleAt}
 use Rattle.core_parse.specs.code.Pushdown.{closing, is_info, expr_begun, function_begun, definition_begun, export_begun, clause_begun, body_begun, module_begun, goal_moved, parts_moved, annotation_mark, clause_mark, mark}
-use Rattle.core_parse.specs.code.Trees.{behind_heads}
+use Rattle.core_build.specs.code.Forms.{behind_heads}
 use Rattle.core_parse.proofs.Tests.{Opens, not_closing, is_itself, is_not}
 use Rattle.core_parse.proofs.Meaning.{Completes, DefinedThen, ExportedThen, tables_of}
-use Rattle.core_parse.proofs.Joins.{join_front}
+use Rattle.core_build.proofs.Joins.{join_front}
 use Rattle.core_parse.proofs.Forth.{Moves, Forth, parts_first, parts_closed, heads_first, tail_first, note_not_before, aliased_pattern, pattern_opens, pattern_forth}
 use Rattle.hy_core.specs.declared.tree.FunName.{FunName}
 use Rattle.hy_core.specs.declared.tree.Function.{Function}

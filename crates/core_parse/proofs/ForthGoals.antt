@@ -9,17 +9,17 @@ use Rattle.hy_core.specs.declared.token.Sign.TheVariants as sign
 use Rattle.hy_core.specs.declared.token.Token.TheVariants as t
 use Rattle.hy_core.specs.declared.tables.Tables.{Tables}
 use Rattle.hy_core.specs.declared.tree.Module.{Module}
-use Rattle.core_parse.specs.declared.state.Part.TheVariants as part
-use Rattle.core_parse.specs.declared.state.Closer.{Closer}
-use Rattle.core_parse.specs.declared.state.Goal.{Goal}
-use Rattle.core_parse.specs.declared.state.Goal.TheVariants as g
-use Rattle.core_parse.specs.declared.state.Value.{Value}
-use Rattle.core_parse.specs.declared.state.Value.TheVariants as v
+use Rattle.core_build.specs.declared.form.Part.TheVariants as part
+use Rattle.core_parse.specs.declared.goal.Closer.{Closer}
+use Rattle.core_parse.specs.declared.goal.Goal.{Goal}
+use Rattle.core_parse.specs.declared.goal.Goal.TheVariants as g
+use Rattle.core_build.specs.declared.value.Value.{Value}
+use Rattle.core_build.specs.declared.value.Value.TheVariants as v
 use Rattle.core_parse.specs.declared.state.State.{State}
 use Rattle.hy_core.specs.Patterns.{IsNotBefore}
 use Rattle.hy_core.specs.Grammar.{the_module_info}
 use Rattle.core_parse.specs.code.Pushdown.{state, closing, symbol_in, is_next, with_built, goal_moved, info_arity_moved, info_export_moved, aliased_by, mark, settled, taken_from, stepped, checked}
-use Rattle.core_parse.specs.code.Trees.{built}
+use Rattle.core_build.specs.Trees.{built}
 use Rattle.core_parse.proofs.Tests.{first_of, is_itself, not_next}
 use Rattle.core_parse.proofs.Meaning.{Completes, OnBuilt, DefinedThen, ExportedThen}
 use Rattle.core_parse.proofs.Forth.{Moves, Forth, forth_at, constant_forth, constants_forth, more_constants_forth, constant_list_forth, constant_end_forth, constant_tail_forth, note_forth, key_forth, primop_forth, value_forth, attribute_forth, attributes_forth, more_attributes_forth, variable_forth, variables_forth, more_variables_forth, bindings_forth, pattern_forth, patterns_forth, more_patterns_forth, pattern_list_forth, pattern_end_forth, pattern_tail_forth}

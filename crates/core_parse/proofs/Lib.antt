@@ -2,7 +2,6 @@ pub mod Digits
 pub mod TokenLoop
 pub mod Tests
 pub mod Meaning
-pub mod Joins
 pub mod Forth
 pub mod ForthExprs
 pub mod ForthGoals

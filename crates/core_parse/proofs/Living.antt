@@ -10,13 +10,13 @@ use Rattle.hy_core.specs.declared.token.Token.{Token}
 use Rattle.hy_core.specs.declared.token.Token.TheVariants as t
 use Rattle.hy_core.specs.declared.tables.Tables.{Tables}
 use Rattle.hy_core.specs.declared.tree.Module.{Module}
-use Rattle.core_parse.specs.declared.state.Part.TheVariants as part
-use Rattle.core_parse.specs.declared.state.Closer.{Closer}
-use Rattle.core_parse.specs.declared.state.Closer.TheVariants as closer
-use Rattle.core_parse.specs.declared.state.Goal.{Goal}
-use Rattle.core_parse.specs.declared.state.Goal.TheVariants as g
-use Rattle.core_parse.specs.declared.state.Value.{Value}
-use Rattle.core_parse.specs.declared.state.Value.TheVariants as v
+use Rattle.core_build.specs.declared.form.Part.TheVariants as part
+use Rattle.core_parse.specs.declared.goal.Closer.{Closer}
+use Rattle.core_parse.specs.declared.goal.Closer.TheVariants as closer
+use Rattle.core_parse.specs.declared.goal.Goal.{Goal}
+use Rattle.core_parse.specs.declared.goal.Goal.TheVariants as g
+use Rattle.core_build.specs.declared.value.Value.{Value}
+use Rattle.core_build.specs.declared.value.Value.TheVariants as v
 use Rattle.hy_core.specs.Patterns as pats
 use Rattle.hy_core.specs.Patterns.{IsNotBefore}
 use Rattle.hy_core.specs.Expressions as exprs
@@ -24,7 +24,7 @@ use Rattle.hy_core.specs.Expressions.{named_by, clause_of, IsExpr, IsClause}
 use Rattle.hy_core.specs.Grammar as mods
 use Rattle.hy_core.specs.Grammar.{IsDropped, the_module_info, module_of}
 use Rattle.core_parse.specs.code.Pushdown.{closing}
-use Rattle.core_parse.specs.code.Trees.{built}
+use Rattle.core_build.specs.Trees.{built}
 use Rattle.core_parse.proofs.Tests.{not_symbol}
 use Rattle.core_parse.proofs.Meaning.{Completes, ClauseWhenThen}
 use Rattle.core_parse.proofs.Fitting.{Quiet, IfBuilt, Fits, FitsOrDone}
@@ -33,7 +33,7 @@ use Rattle.hy_core.specs.declared.tree.Pattern.{Pattern}
 use Rattle.hy_core.specs.declared.tree.Pattern.TheVariants as p
 use Rattle.hy_core.specs.declared.tree.Expr.{Expr}
 use Rattle.hy_core.specs.declared.tree.Expr.TheVariants as e
-use Rattle.core_parse.specs.declared.state.Form.{Form}
+use Rattle.core_build.specs.declared.form.Form.{Form}
 
 -- some tokens complete the state, and they don't begin with = where they needn't
 pub record Alive (gs : List Goal) (vs : List Value) (s : Tables) : Type 0 where

@@ -7,7 +7,8 @@ use Rattle.hy_core.specs.Patterns.{IsVariable, AreVariables, AreMoreVariables, B
 use Rattle.hy_core.specs.Expressions.{named_by, IsExpr, AreExprs, AreMoreExprs, IsList, IsListEnd, IsTail, IsClause, AreClauses, IsFunction, AreFunctions}
 use Rattle.hy_core.specs.Grammar.{the_module_info, IsDropped, IsExport, AreExports, AreMoreExports, AreDefinitions, IsModuleAt}
 use Rattle.core_parse.specs.code.Pushdown.{closing, finished}
-use Rattle.core_parse.specs.code.Trees.{behind_heads, behind_head_patterns, built}
+use Rattle.core_build.specs.code.Forms.{behind_heads, behind_head_patterns}
+use Rattle.core_build.specs.Trees.{built}
 use Rattle.hy_core.specs.declared.token.Symbol.{Symbol}
 use Rattle.hy_core.specs.declared.token.Symbol.TheVariants as w
 use Rattle.hy_core.specs.declared.token.Token.TheVariants as t
@@ -20,15 +21,15 @@ use Rattle.hy_core.specs.declared.tree.Clause.{Clause}
 use Rattle.hy_core.specs.declared.tree.Expr.{Expr}
 use Rattle.hy_core.specs.declared.tree.Expr.TheVariants as e
 use Rattle.hy_core.specs.declared.tree.Module.{Module}
-use Rattle.core_parse.specs.declared.state.Part.{Part}
-use Rattle.core_parse.specs.declared.state.Part.TheVariants as part
-use Rattle.core_parse.specs.declared.state.Closer.{Closer}
-use Rattle.core_parse.specs.declared.state.Form.{Form}
-use Rattle.core_parse.specs.declared.state.Form.TheVariants as f
-use Rattle.core_parse.specs.declared.state.Goal.{Goal}
-use Rattle.core_parse.specs.declared.state.Goal.TheVariants as g
-use Rattle.core_parse.specs.declared.state.Value.{Value}
-use Rattle.core_parse.specs.declared.state.Value.TheVariants as v
+use Rattle.core_build.specs.declared.form.Part.{Part}
+use Rattle.core_build.specs.declared.form.Part.TheVariants as part
+use Rattle.core_parse.specs.declared.goal.Closer.{Closer}
+use Rattle.core_build.specs.declared.form.Form.{Form}
+use Rattle.core_build.specs.declared.form.Form.TheVariants as f
+use Rattle.core_parse.specs.declared.goal.Goal.{Goal}
+use Rattle.core_parse.specs.declared.goal.Goal.TheVariants as g
+use Rattle.core_build.specs.declared.value.Value.{Value}
+use Rattle.core_build.specs.declared.value.Value.TheVariants as v
 
 -- what holds of the values, the tables and the tokens behind a part
 abbrev pub Rest : Type 1

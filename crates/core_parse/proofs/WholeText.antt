@@ -1,5 +1,5 @@
 -- The verdict on a text is the one that the grammar gives.
-use Rattle.std.proofs.Common.{◌≡◌, ℕ, suc, ◌+◌, ◌-◌, ◌≤◌, ◌^◌, List, [], ◌∷◌, ◌++◌, length, Some, Result, Ok, Err, ◌⊎◌, inl, inr, refl, sym, ap, subst, ◌∙◌, arith, slice_get}
+use Rattle.std.proofs.Common.{◌≡◌, ℕ, suc, ◌+◌, ◌-◌, ◌≤◌, ◌^◌, Bool, true, false, nat_lt, ltb-true, ltb-false, List, [], ◌∷◌, ◌++◌, length, Some, Result, Ok, Err, ◌⊎◌, inl, inr, refl, sym, ap, subst, ◌∙◌, arith, slice_get}
 use Rattle.std.specs.Prelude.{IfOk}
 use Rattle.std.proofs.lemmas.List.{append-nil}
 use Rattle.hy_core.specs.Tokens.{Lexes, AreWithin, EndsWithin}
@@ -15,7 +15,10 @@ use Rattle.hy_core.specs.declared.token.Ending.TheVariants as ends
 use Rattle.hy_core.specs.declared.refusal.RefusalKind.{RefusalKind}
 use Rattle.hy_core.specs.declared.refusal.RefusalKind.TheVariants as k
 use Rattle.hy_core.specs.declared.tree.Module.{Module}
-use Rattle.core_scan.proofs.OneLexing.{one_lexing}
+use Rattle.core_scan.specs.code.Scan.{scan}
+use Rattle.core_scan.specs.declared.state.State.TheVariants.{Gap}
+use Rattle.core_scan.proofs.Scanned.{scan_lexes}
+use Rattle.core_scan.proofs.OneLexing.{one_lexing, tokens_within}
 use Rattle.core_parse.specs.code.Pushdown.{Reading, run, start}
 use Rattle.core_parse.specs.Answers.{Verdict, Gives, IfRefused}
 use Rattle.core_parse.specs.code.Verdicts.{left_at, behind, place_of, refused_as, verdict, GivesText, too_long, of_tokens, no_memory}
@@ -283,3 +286,28 @@ one_tree bytes y z (few, (ls, lexes, reads)) (less, (os, other, again)) =
     let here : Reads (tokens_in ls) z = subst (λ (u : List Lexeme). Reads (tokens_in u) z) one.0 again in
     let both : Ok y ≡ Ok z = sym (reads_run (tokens_in ls) y reads) ∙ reads_run (tokens_in ls) z here in
     cc
+
+-- ---- each text has a verdict
+
+abbrev IsModuleOrRefused : List ℕ → Type 0
+IsModuleOrRefused bytes = ((z : Module) × IsModuleText bytes z) ⊎ ((kind : RefusalKind) × (place : ℕ) × IsRefusedText bytes kind place)
+
+decided_by : (bytes : List ℕ) (ls : List Lexeme) (end : Ending) → length bytes ≤ 2 ^ 20 → Lexes bytes ls end → (v : Verdict) → Holds (length bytes) ls end v → IsModuleOrRefused bytes
+decided_by bytes ls end few lexes (Ok z) h = inl (z, (few, (ls, subst (λ (o : Ending). Lexes bytes ls o) h.0 lexes, h.1)))
+decided_by bytes ls end few lexes (Err fault) h = inr (fault.0, fault.1, refused_kind bytes fault.0 ls end fault.1 few lexes h)
+
+-- by the lexing that the scan gives
+short_decided : (bytes : List ℕ) → length bytes ≤ 2 ^ 20 → IsModuleOrRefused bytes
+short_decided bytes few =
+    let ls = (scan bytes Gap).0 in
+    let end = (scan bytes Gap).1 in
+    let lexes = scan_lexes bytes in
+    let within = tokens_within bytes ls end lexes in
+    decided_by bytes ls end few lexes (verdict (length bytes) ls end (run 0 (tokens_in ls) start)) (holds (length bytes) ls end within.0 within.1)
+
+pub some_verdict : (bytes : List ℕ) → ((z : Module) × IsModuleText bytes z) ⊎ ((kind : RefusalKind) × (place : ℕ) × IsRefusedText bytes kind place)
+some_verdict bytes = by (nat_lt (2 ^ 20) (length bytes)) refl
+  where
+    by : (long : Bool) → nat_lt (2 ^ 20) (length bytes) ≡ long → IsModuleOrRefused bytes
+    by true is = inr (k.TooLong, 2 ^ 20, (ltb-true (2 ^ 20) (length bytes) is, refl))
+    by false is = short_decided bytes (ltb-false (2 ^ 20) (length bytes) is)

@@ -27,25 +27,6 @@ impl From<AllocError> for ReadAnswer {
     }
 }
 
-/// Why a token isn't taken.
-#[derive(Clone, Copy, Debug, PartialEq, Eq)]
-pub enum StepFault {
-    Refused(RefusalKind),
-    /// Want of memory.
-    Memory,
-}
-
-impl From<AllocError> for StepFault {
-    ghost use Rattle.std.specs.Prelude.{◌≡◌};
-    ghost use Rattle.core_parse.specs.declared.answer.StepFault.TheVariants.{Memory};
-
-    ghost from_gives = { λ _ e. e ≡ Memory };
-
-    fn from(_error: AllocError) -> StepFault {
-        StepFault::Memory
-    }
-}
-
 /// Why tokens are no module: the kind of the refusal, and the number of tokens before it.
 #[derive(Clone, Copy, Debug, PartialEq, Eq)]
 pub struct RefusedToken {
@@ -60,6 +41,3 @@ pub enum TokenAnswer {
     /// Want of memory.
     Memory,
 }
-
-/// A token that no module has there.
-pub const UNEXPECTED: StepFault = StepFault::Refused(RefusalKind::Unexpected);

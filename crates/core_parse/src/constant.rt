@@ -1,13 +1,13 @@
-ghost use Rattle.std.specs.Prelude.{◌≡◌};
 ghost use Rattle.hy_core.specs.Marks.{constant};
-ghost use Rattle.core_parse.specs.code.Pushdown.{checked, constant_begun, constant_opened, value_begun, value_mark};
-ghost use Rattle.core_parse.specs.code.Verdicts.{GivesState};
 ghost use Rattle.hy_core.specs.declared.token.Token.TheVariants.{Symbol as SymbolToken};
+ghost use Rattle.core_parse.specs.code.Pushdown.{checked, constant_begun, constant_opened};
+ghost use Rattle.core_parse.specs.code.Verdicts.{GivesState};
 
-use crate::answer::StepFault;
+use crate::goal::{Closer, Goal};
 use crate::level::inside;
-use crate::state::{Closer, Goal, Part, State};
-use hy_core::{RefusalKind, Symbol, Token};
+use crate::state::State;
+use core_build::{Part, StepFault, UNEXPECTED};
+use hy_core::{Symbol, Token};
 
 /// The first token of a constant of this level, of which nothing is kept.
 pub fn begin_constant(level: u32, token: &Token, state: &mut State) -> Result<(), StepFault>
@@ -16,7 +16,7 @@ pub fn begin_constant(level: u32, token: &Token, state: &mut State) -> Result<()
         (constant_begun level state.old.goals state.old.values state.old.tables token.now)) }
 {
     match token {
-        Token::Variable(_) => Err(StepFault::Refused(RefusalKind::Unexpected)),
+        Token::Variable(_) => Err(UNEXPECTED),
         Token::Symbol(symbol) => open_constant(level, *symbol, state),
         _ => {
             inside(level)?;
@@ -42,25 +42,7 @@ fn open_constant(level: u32, symbol: Symbol, state: &mut State) -> Result<(), St
                 .goals
                 .push(Goal::Parts(Part::Constant, inner, Closer::Tuple))?;
         }
-        _ => return Err(StepFault::Refused(RefusalKind::Unexpected)),
+        _ => return Err(UNEXPECTED),
     }
     Ok(())
-}
-
-/// The first token of an attribute's value.
-pub fn begin_value(level: u32, token: &Token, state: &mut State) -> Result<(), StepFault>
-    ensures { GivesState result state.new
-        (checked (value_mark level token.now)
-        (value_begun level state.old.goals state.old.values state.old.tables token.now)) }
-{
-    match token {
-        Token::Symbol(Symbol::Open) => {
-            let inner = inside(level)?;
-            state
-                .goals
-                .push_all(&[Goal::AttributeValue(inner), Goal::Note(level)])?;
-            Ok(())
-        }
-        _ => begin_constant(level, token, state),
-    }
 }

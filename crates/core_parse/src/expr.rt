@@ -1,17 +1,21 @@
 ghost use Rattle.std.specs.Prelude.{◌≡◌, IfOk};
-ghost use Rattle.hy_core.specs.Marks.{at};
 ghost use Rattle.hy_core.specs.Expressions.{string_expr};
-ghost use Rattle.core_parse.specs.code.Pushdown.{checked, expr_begun, expr_opened};
-ghost use Rattle.core_parse.specs.code.Verdicts.{GivesState};
+ghost use Rattle.hy_core.specs.Marks.{at};
 ghost use Rattle.hy_core.specs.declared.token.Token.TheVariants.{Symbol as SymbolToken};
+ghost use Rattle.core_parse.specs.code.Pushdown.{annotation_mark, checked, expr_begun, expr_opened, primop_begun};
+ghost use Rattle.core_parse.specs.code.Verdicts.{GivesState};
 
-use crate::answer::StepFault;
+use crate::construct::{
+    open_annotated, open_apply, open_call, open_case, open_catch, open_do, open_fun, open_let,
+    open_letrec, open_list, open_primop, open_receive, open_try, open_tuple, open_values,
+};
+use crate::goal::Goal;
 use crate::interning::number_of;
 use crate::level::inside;
-use crate::number::integer;
-use crate::state::{Closer, Form, Goal, Part, State, Value};
-use hy_core::{Expr, RefusalKind, Symbol, Text, Token};
-use sqlite_items::Items;
+use crate::number::{OUT_OF_RANGE, integer};
+use crate::state::State;
+use core_build::{StepFault, UNEXPECTED, Value};
+use hy_core::{Expr, Symbol, Text, Token};
 use std::alloc::{AllocError, Global};
 
 // A string, which is nil where it is empty.
@@ -38,9 +42,7 @@ pub fn begin_expr(
     match token {
         Token::Integer(sign, digits) => {
             inside(level)?;
-            let n = integer(*sign, digits.as_slice()).ok_or(StepFault::Refused(
-                RefusalKind::NumberRange,
-            ))?;
+            let n = integer(*sign, digits.as_slice()).ok_or(OUT_OF_RANGE)?;
             state.values.push(Value::Expr(Expr::Int(n)))?;
         }
         Token::Character(code) => {
@@ -55,9 +57,8 @@ pub fn begin_expr(
         }
         Token::Str(text) => {
             inside(level)?;
-            state
-                .values
-                .push(Value::Expr(string(alloc, text.as_slice())?))?;
+            let x = string(alloc, text.as_slice())?;
+            state.values.push(Value::Expr(x))?;
         }
         Token::Variable(name) => {
             inside(level)?;
@@ -76,142 +77,44 @@ fn open_expr(alloc: Global, level: u32, symbol: Symbol, state: &mut State) -> Re
         (expr_opened level state.old.goals state.old.values state.old.tables symbol)) }
 {
     match symbol {
-        Symbol::OpenList => {
-            inside(level)?;
-            state.values.push(Value::Exprs(Items::new(alloc)))?;
-            state.goals.push(Goal::Heads(Part::Expr, level))?;
-        }
-        Symbol::OpenTuple => {
-            let inner = inside(level)?;
-            state.goals.push_all(&[
-                Goal::Parts(Part::Expr, inner, Closer::Tuple),
-                Goal::Build(Form::Tuple),
-            ])?;
-        }
-        Symbol::Let => {
-            let inner = inside(level)?;
-            state.goals.push_all(&[
-                Goal::Bindings(inner),
-                Goal::Symbol(Symbol::Equals),
-                Goal::Part(Part::Expr, inner),
-                Goal::Symbol(Symbol::In),
-                Goal::Part(Part::Expr, inner),
-                Goal::Build(Form::Let),
-            ])?;
-        }
-        Symbol::Less => {
-            let inner = inside(level)?;
-            state.goals.push_all(&[
-                Goal::Parts(Part::Expr, inner, Closer::Values),
-                Goal::Build(Form::Values),
-            ])?;
-        }
-        Symbol::Do => {
-            let inner = inside(level)?;
-            state.goals.push_all(&[
-                Goal::Part(Part::Expr, inner),
-                Goal::Part(Part::Expr, inner),
-                Goal::Build(Form::Do),
-            ])?;
-        }
-        Symbol::Case => {
-            let inner = inside(level)?;
-            state.goals.push_all(&[
-                Goal::Part(Part::Expr, inner),
-                Goal::Symbol(Symbol::Of),
-                Goal::Build(Form::NoClauses),
-                Goal::Clause(inner, false),
-                Goal::Clauses(inner, Closer::Case),
-                Goal::Build(Form::Case),
-            ])?;
-        }
-        Symbol::Letrec => {
-            let inner = inside(level)?;
-            state.values.push(Value::Functions(Items::new(alloc)))?;
-            state.goals.push_all(&[
-                Goal::Functions(inner),
-                Goal::Part(Part::Expr, inner),
-                Goal::Build(Form::Letrec),
-            ])?;
-        }
-        Symbol::Apply => {
-            let inner = inside(level)?;
-            state.goals.push_all(&[
-                Goal::Part(Part::Expr, inner),
-                Goal::Symbol(Symbol::Open),
-                Goal::Parts(Part::Expr, inner, Closer::Arguments),
-                Goal::Build(Form::Apply),
-            ])?;
-        }
-        Symbol::Call => {
-            let inner = inside(level)?;
-            state.goals.push_all(&[
-                Goal::Part(Part::Expr, inner),
-                Goal::Symbol(Symbol::Colon),
-                Goal::Part(Part::Expr, inner),
-                Goal::Symbol(Symbol::Open),
-                Goal::Parts(Part::Expr, inner, Closer::Arguments),
-                Goal::Build(Form::Call),
-            ])?;
-        }
-        Symbol::Primop => {
-            let inner = inside(level)?;
-            state.goals.push_all(&[
-                Goal::Primop(inner),
-                Goal::Symbol(Symbol::Open),
-                Goal::Parts(Part::Expr, inner, Closer::Arguments),
-                Goal::Build(Form::Primop),
-            ])?;
-        }
-        Symbol::Receive => {
-            let inner = inside(level)?;
-            state.values.push(Value::Clauses(Items::new(alloc)))?;
-            state.goals.push_all(&[
-                Goal::Clauses(inner, Closer::Receive),
-                Goal::Part(Part::Expr, inner),
-                Goal::Symbol(Symbol::Arrow),
-                Goal::Part(Part::Expr, inner),
-                Goal::Build(Form::Receive),
-            ])?;
-        }
-        Symbol::Try => {
-            let inner = inside(level)?;
-            state.goals.push_all(&[
-                Goal::Part(Part::Expr, inner),
-                Goal::Symbol(Symbol::Of),
-                Goal::Bindings(inner),
-                Goal::Symbol(Symbol::Arrow),
-                Goal::Part(Part::Expr, inner),
-                Goal::Symbol(Symbol::Catch),
-                Goal::Bindings(inner),
-                Goal::Symbol(Symbol::Arrow),
-                Goal::Part(Part::Expr, inner),
-                Goal::Build(Form::Try),
-            ])?;
-        }
-        Symbol::Catch => {
-            let inner = inside(level)?;
-            state
-                .goals
-                .push_all(&[Goal::Part(Part::Expr, inner), Goal::Build(Form::Catch)])?;
-        }
-        Symbol::Fun => {
-            let inner = inside(level)?;
-            state.goals.push_all(&[
-                Goal::Symbol(Symbol::Open),
-                Goal::Parts(Part::Variable, inner, Closer::Arguments),
-                Goal::Symbol(Symbol::Arrow),
-                Goal::Part(Part::Expr, inner),
-                Goal::Build(Form::Fun),
-            ])?;
-        }
-        Symbol::Open => {
-            let inner = inside(level)?;
-            state
-                .goals
-                .push_all(&[Goal::Part(Part::Expr, inner), Goal::Note(level)])?;
-        }
-        _ => return Err(StepFault::Refused(RefusalKind::Unexpected)),
+        Symbol::OpenList => open_list(alloc, level, state),
+        Symbol::OpenTuple => open_tuple(level, state),
+        Symbol::Let => open_let(level, state),
+        Symbol::Less => open_values(level, state),
+        Symbol::Do => open_do(level, state),
+        Symbol::Case => open_case(level, state),
+        Symbol::Letrec => open_letrec(alloc, level, state),
+        Symbol::Apply => open_apply(level, state),
+        Symbol::Call => open_call(level, state),
+        Symbol::Primop => open_primop(level, state),
+        Symbol::Receive => open_receive(alloc, level, state),
+        Symbol::Try => open_try(level, state),
+        Symbol::Catch => open_catch(level, state),
+        Symbol::Fun => open_fun(level, state),
+        Symbol::Open => open_annotated(level, state),
+        _ => Err(UNEXPECTED),
     }
-    Ok(())
+}
+
+/// The first token of the name of a primitive operation.
+pub fn begin_primop(level: u32, token: &Token, state: &mut State) -> Result<(), StepFault>
+    ensures { GivesState result state.new
+        (checked (annotation_mark level token.now)
+        (primop_begun level state.old.goals state.old.values state.old.tables token.now)) }
+{
+    match token {
+        Token::Atom(text) => {
+            let atom = number_of(&mut state.tables.atoms, text.as_slice())?;
+            state.values.push(Value::Atom(atom))?;
+            Ok(())
+        }
+        Token::Symbol(Symbol::Open) => {
+            let inner = inside(level)?;
+            state
+                .goals
+                .push_all(&[Goal::Primop(inner), Goal::Note(level)])?;
+            Ok(())
+        }
+        _ => Err(UNEXPECTED),
+    }
 }

@@ -1,9 +1,9 @@
-ghost use Rattle.std.specs.Prelude.{◌≡◌, IfOk, IfErr};
+ghost use Rattle.std.specs.Prelude.{◌≡◌, IfErr, IfOk};
 ghost use Rattle.hy_terms.specs.Naming.{named};
-ghost use Rattle.core_parse.specs.declared.answer.StepFault.TheVariants.{Memory};
+ghost use Rattle.core_build.specs.declared.fault.StepFault.TheVariants.{Memory};
 
-use crate::answer::StepFault;
-use hy_terms::{AtomFault, Atoms};
+use core_build::StepFault;
+use hy_terms::Atoms;
 
 /// The number of a text in a table.
 pub fn number_of(table: &mut Atoms, text: &[u8]) -> Result<u32, StepFault>

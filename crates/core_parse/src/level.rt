@@ -1,9 +1,9 @@
-ghost use Rattle.std.specs.Prelude.{◌≡◌, ◌+◌, nat_lt, true, false, MatchResult, IfOk, IfErr};
-ghost use Rattle.core_parse.specs.declared.answer.StepFault.TheVariants.{Refused, Memory};
+ghost use Rattle.std.specs.Prelude.{◌+◌, ◌≡◌, IfErr, IfOk, MatchResult, false, nat_lt, true};
 ghost use Rattle.hy_core.specs.declared.refusal.RefusalKind.TheVariants.{TooDeep as DeepKind};
+ghost use Rattle.core_build.specs.declared.fault.StepFault.TheVariants.{Memory, Refused};
 
-use crate::answer::StepFault;
-use crate::state::LEVELS;
+use crate::goal::LEVELS;
+use core_build::StepFault;
 use hy_core::RefusalKind;
 
 /// The level of what stands inside a construct of this level, which may have 400.

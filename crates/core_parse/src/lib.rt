@@ -1,30 +1,36 @@
 //! Reads the text of a module, exactly where the grammar gives it a tree.
+//!
+//! What is still to be read lies on a stack of goals, and what was read on a stack of values. Each
+//! rule of the grammar has a module, with all the goals that it takes.
 #![tactic(auto)]
 
+mod annotation;
 mod answer;
-mod arity;
-mod behind;
-mod build;
-mod clause_forms;
+mod attribute;
+mod clause;
 mod constant;
+mod construct;
+mod export;
 mod expr;
-mod expr_forms;
+mod function;
+mod goal;
 mod interning;
-mod join;
+mod laws;
 mod level;
 mod list;
 mod module;
-mod named;
+mod name;
 mod number;
-mod parts;
+mod part;
 mod pattern;
-mod pop;
 mod read;
 mod run;
 mod settle;
-mod several;
 mod state;
 mod step;
+mod symbol;
+mod variable;
 
 pub use answer::{ReadAnswer, Refused};
-pub use read::{one_tree, one_verdict, read_module, spaces_are_no_module};
+pub use laws::{one_tree, one_verdict, some_verdict, spaces_are_no_module};
+pub use read::read_module;

@@ -1,9 +1,13 @@
-ghost use Rattle.std.specs.Prelude.{◌≡◌, ◌==◌, ◌<◌, ◌≤◌, ◌^◌, true, false, MatchOption};
-ghost use Rattle.hy_core.specs.Marks.{value, number};
+ghost use Rattle.std.specs.Prelude.{◌<◌, ◌^◌, ◌≡◌, ◌≤◌, MatchOption, false, true};
+ghost use Rattle.hy_core.specs.Marks.{number, value};
 ghost use Rattle.core_parse.specs.code.Pushdown.{in_range};
 
-use hy_core::Sign;
+use core_build::StepFault;
+use hy_core::{RefusalKind, Sign};
 use hy_terms::LEAST_NUMBER;
+
+/// A number out of range.
+pub const OUT_OF_RANGE: StepFault = StepFault::Refused(RefusalKind::NumberRange);
 
 // The size of the least number.
 const LARGEST_SIZE: u64 = (-LEAST_NUMBER) as u64;

@@ -1,16 +1,19 @@
 ghost use Rattle.std.specs.Prelude.{◌≡◌, IfOk};
-ghost use Rattle.hy_core.specs.Marks.{at, constant};
+ghost use Rattle.hy_core.specs.Marks.{at, plain, symbol as symbol_mark};
 ghost use Rattle.hy_core.specs.Patterns.{string_pattern};
-ghost use Rattle.core_parse.specs.code.Pushdown.{checked, pattern_begun, pattern_opened, constant_begun, constant_opened, value_begun, value_mark, clause_begun, clause_mark, clause_rest};
-ghost use Rattle.core_parse.specs.code.Verdicts.{GivesState};
 ghost use Rattle.hy_core.specs.declared.token.Token.TheVariants.{Symbol as SymbolToken};
+ghost use Rattle.core_parse.specs.code.Pushdown.{alias_moved, aliased_by, checked, pattern_begun, pattern_opened};
+ghost use Rattle.core_parse.specs.code.Verdicts.{GivesState};
+ghost use Rattle.hy_core.specs.declared.token.Symbol.TheVariants as symbols;
 
-use crate::answer::StepFault;
+use crate::goal::{Closer, Goal};
 use crate::interning::number_of;
-use crate::level::inside;
-use crate::number::integer;
-use crate::state::{Closer, Form, Goal, Part, State, Value};
-use hy_core::{Pattern, RefusalKind, Symbol, Text, Token};
+use crate::level::{deeper, inside};
+use crate::number::{OUT_OF_RANGE, integer};
+use crate::state::State;
+use crate::symbol::want;
+use core_build::{Form, Part, StepFault, UNEXPECTED, Value, pop_pattern};
+use hy_core::{Pattern, Symbol, Text, Token};
 use sqlite_items::Items;
 use std::alloc::{AllocError, Global};
 
@@ -38,16 +41,13 @@ pub fn begin_pattern(
     match token {
         Token::Integer(sign, digits) => {
             inside(level)?;
-            let n = integer(*sign, digits.as_slice()).ok_or(StepFault::Refused(
-                RefusalKind::NumberRange,
-            ))?;
+            let n = integer(*sign, digits.as_slice()).ok_or(OUT_OF_RANGE)?;
             state.values.push(Value::Pattern(Pattern::Int(n)))?;
         }
         Token::Character(code) => {
             inside(level)?;
-            state
-                .values
-                .push(Value::Pattern(Pattern::Int(i64::from(*code))))?;
+            let n = i64::from(*code);
+            state.values.push(Value::Pattern(Pattern::Int(n)))?;
         }
         Token::Atom(text) => {
             inside(level)?;
@@ -56,9 +56,8 @@ pub fn begin_pattern(
         }
         Token::Str(text) => {
             inside(level)?;
-            state
-                .values
-                .push(Value::Pattern(string(alloc, text.as_slice())?))?;
+            let x = string(alloc, text.as_slice())?;
+            state.values.push(Value::Pattern(x))?;
         }
         Token::Variable(name) => {
             inside(level)?;
@@ -103,59 +102,38 @@ fn open_pattern(
                 Goal::Alias(level),
             ])?;
         }
-        _ => return Err(StepFault::Refused(RefusalKind::Unexpected)),
+        _ => return Err(UNEXPECTED),
     }
     Ok(())
 }
 
-/// The first token of a clause whose patterns have this level.
-pub fn begin_clause(
-    alloc: Global,
-    level: u32,
-    inner: bool,
-    token: &Token,
-    state: &mut State,
-) -> Result<(), StepFault>
+/// The `=` of an alias, behind its variable.
+pub fn take_alias(level: u32, token: &Token, state: &mut State) -> Result<(), StepFault>
     ensures { GivesState result state.new
-        (checked (clause_mark level token.now)
-        (clause_begun level inner state.old.goals state.old.values state.old.tables token.now)) }
+        (checked (plain token.now) (alias_moved level state.old.goals state.old.values
+        state.old.tables token.now)) }
 {
-    match token {
-        Token::Symbol(Symbol::Open) => {
-            let inside_note = inside(level)?;
-            state.goals.push_all(&[
-                Goal::Clause(inside_note, true),
-                Goal::ClauseNote(level, inner),
-            ])?;
-            Ok(())
-        }
-        Token::Symbol(Symbol::Less) => {
-            push_clause_rest(level, state)?;
-            state.goals.push_all(&[
-                Goal::Parts(Part::Pattern, level, Closer::Values),
-                Goal::Symbol(Symbol::When),
-            ])?;
-            Ok(())
-        }
-        _ => {
-            state.goals.push(Goal::ClauseRest(level, inner))?;
-            begin_pattern(alloc, level, token, state)
-        }
-    }
+    want(token, Symbol::Equals)?;
+    let pattern = pop_pattern(&mut state.values)?;
+    alias_of(level, pattern, state)
 }
 
-/// A guard and a body are to be read.
-pub fn push_clause_rest(level: u32, state: &mut State) -> Result<(), AllocError>
-    ensures { IfOk result (λ _. state.new ≡ record {
-      goals = clause_rest level state.old.goals;
-      values = state.old.values;
-      tables = state.old.tables;
-    }) }
+// The rest of an alias is to be read, behind a pattern that has to be a variable.
+fn alias_of(level: u32, pattern: Pattern, state: &mut State) -> Result<(), StepFault>
+    ensures { GivesState result state.new
+        (checked (symbol_mark symbols.Equals)
+        (aliased_by level state.old.goals pattern state.old.values state.old.tables)) }
 {
-    state.goals.push_all(&[
-        Goal::Part(Part::Expr, level),
-        Goal::Symbol(Symbol::Arrow),
-        Goal::Part(Part::Expr, level),
-        Goal::Build(Form::Clause),
-    ])
+    match pattern {
+        Pattern::Var(var) => {
+            let inner = deeper(level)?;
+            state.values.push(Value::Variable(var))?;
+            state.goals.push_all(&[Goal::Part(Part::Pattern, inner), Goal::Build(Form::Alias)])?;
+            Ok(())
+        }
+        other => {
+            drop(other);
+            Err(UNEXPECTED)
+        }
+    }
 }

@@ -1,15 +1,13 @@
-ghost use Rattle.std.specs.Prelude.{◌≡◌, ◌<◌, ◌≤◌, ◌^◌, ℕ, List, IfOk, Ok, Err, length};
+ghost use Rattle.std.specs.Prelude.{◌≡◌, Err, IfOk, Ok, ℕ};
 ghost use Rattle.hy_core.specs.Reading.{IsModuleText, tokens_in};
 ghost use Rattle.hy_core.specs.Refusals.{IsRefusedText};
 ghost use Rattle.hy_core.specs.Tokens.{AreWithin, EndsWithin};
 ghost use Rattle.hy_core.specs.declared.refusal.RefusalKind.{RefusalKind};
-ghost use Rattle.hy_core.specs.declared.refusal.RefusalKind.TheVariants as kinds;
 ghost use Rattle.hy_core.specs.declared.tree.Module.{Module};
-ghost use Rattle.core_parse.specs.code.Pushdown.{run, start};
-ghost use Rattle.std.specs.List.{AllByRecursion};
-ghost use Rattle.core_parse.specs.Answers.{IsSpace};
 ghost use Rattle.core_parse.specs.Answers.{Gives, IfRefused};
-ghost use Rattle.core_parse.specs.code.Verdicts.{GivesText, GivesTokens, behind, place_of, refused_as, verdict};
+ghost use Rattle.core_parse.specs.code.Pushdown.{run, start};
+ghost use Rattle.core_parse.specs.code.Verdicts.{GivesText, behind, place_of, refused_as, verdict};
+ghost use Rattle.hy_core.specs.declared.refusal.RefusalKind.TheVariants as kinds;
 
 use crate::answer::{ReadAnswer, Refused, RefusedToken, TokenAnswer};
 use crate::run::read_tokens;
@@ -40,27 +38,6 @@ pub fn read_module(alloc: Global, bytes: &[u8]) -> Result<Module, ReadAnswer>
 {
     read_text(alloc, bytes)
 }
-
-/// No text has two trees.
-pub fn one_tree()
-    ensures { (bytes : List ℕ) (y z : Module) → IsModuleText bytes y
-        → IsModuleText bytes z → y ≡ z }
-{}
-
-/// No text both is a module and is refused, and none is refused in two ways.
-pub fn one_verdict()
-    ensures no_module_is_refused { (bytes : List ℕ) (z : Module) (kind : RefusalKind) (place : ℕ)
-        → IsModuleText bytes z → IsRefusedText bytes kind place → ⊥ }
-    ensures one_refusal { (bytes : List ℕ) (kind other : RefusalKind) (place there : ℕ)
-        → IsRefusedText bytes kind place → IsRefusedText bytes other there
-        → (kind ≡ other) × (place ≡ there) }
-{}
-
-/// A text of spaces alone, an empty one too, ends where a module is to begin.
-pub fn spaces_are_no_module()
-    ensures { (bytes : List ℕ) → AllByRecursion IsSpace bytes → length bytes ≤ 2 ^ 20
-        → IsRefusedText bytes kinds.Ended (length bytes) }
-{}
 
 fn refused(kind: RefusalKind, place: usize) -> Result<Module, ReadAnswer>
     ensures { Gives result (Err (kind, place)) }

@@ -1,15 +1,16 @@
-ghost use Rattle.std.specs.Prelude.{◌≡◌, [], length, IfOk};
+ghost use Rattle.std.specs.Prelude.{◌≡◌, IfOk};
 ghost use Rattle.hy_core.specs.Reading.{tokens_in};
-ghost use Rattle.core_parse.specs.code.Pushdown.{symbol_in, stepped, module_built, ended, ended_at, run, start};
-ghost use Rattle.core_parse.specs.code.Verdicts.{GivesState, GivesReading};
-ghost use Rattle.core_parse.specs.code.Steps.{GivesModule};
+ghost use Rattle.core_parse.specs.code.Pushdown.{ended, ended_at, module_built, run, start, stepped};
+ghost use Rattle.core_parse.specs.code.Verdicts.{GivesModule, GivesReading, GivesState};
 
-use crate::answer::{RefusedToken, StepFault, TokenAnswer, UNEXPECTED};
-use crate::pop::{pop_atom, pop_functions, pop_names};
+use crate::answer::{RefusedToken, TokenAnswer};
+use crate::goal::Goal;
 use crate::settle::next_goal;
-use crate::state::{Goal, State, Value};
+use crate::state::State;
 use crate::step::take;
-use hy_core::{Lexeme, Module, RefusalKind, Symbol, Tables, Token};
+use crate::symbol::symbol_of;
+use core_build::{StepFault, UNEXPECTED, Value, pop_atom, pop_functions, pop_names};
+use hy_core::{Lexeme, Module, RefusalKind, Tables, Token};
 use hy_terms::Atoms;
 use stack::Stack;
 use std::alloc::{AllocError, Global};
@@ -28,15 +29,6 @@ fn begin(alloc: Global) -> Result<State, AllocError>
             variables: Atoms::new(alloc),
         },
     })
-}
-
-fn symbol_of(token: &Token) -> Option<Symbol>
-    ensures { result ≡ symbol_in token.now }
-{
-    match token {
-        Token::Symbol(symbol) => Some(*symbol),
-        _ => None,
-    }
 }
 
 // Takes one token.

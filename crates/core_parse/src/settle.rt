@@ -1,23 +1,12 @@
-ghost use Rattle.std.specs.Prelude.{◌≡◌, ◌==◌, ◌∷◌, [], Some, None};
-ghost use Rattle.core_parse.specs.code.Pushdown.{is_next, settled};
+ghost use Rattle.core_parse.specs.code.Pushdown.{settled};
 ghost use Rattle.core_parse.specs.code.Verdicts.{GivesGoal};
 
-use crate::answer::StepFault;
-use crate::build::build_form;
-use crate::parts::build_atom;
-use crate::state::{Goal, State};
+use crate::goal::Goal;
+use crate::state::State;
+use crate::symbol::is;
+use core_build::{StepFault, build_atom, build_form};
 use hy_core::Symbol;
 use std::alloc::Global;
-
-// Whether the next token is this symbol.
-fn is(next: Option<Symbol>, symbol: Symbol) -> bool
-    ensures { result ≡ is_next symbol next }
-{
-    match next {
-        Some(found) => found == symbol,
-        None => false,
-    }
-}
 
 /// Takes the goal off the stack that is to take the next token, which may be a symbol. Trees whose
 /// parts are read are built before, and goals that may be nothing are passed over where the symbol

@@ -1,21 +1,25 @@
-ghost use Rattle.std.specs.Prelude.{◌≡◌, true, false};
-ghost use Rattle.hy_core.specs.Marks.{plain};
-ghost use Rattle.core_parse.specs.code.Pushdown.{is_symbol, is_next, closing, checked, mark, part_mark, arity_mark, part_begun, parts_moved, more_parts_moved, heads_moved, more_heads_moved, tail_moved, arity_moved, function_arity_moved, info_arity_moved, export_arity_moved, info_export_moved, aliased_by, alias_moved, clauses_moved, clause_rest_moved, behind_note, note_rest, functions_moved, definitions_moved, goal_moved};
+ghost use Rattle.core_parse.specs.code.Pushdown.{checked, goal_moved, mark};
 ghost use Rattle.core_parse.specs.code.Verdicts.{GivesState};
-ghost use Rattle.core_parse.specs.declared.state.Goal.TheVariants as g;
 
-use crate::answer::{StepFault, UNEXPECTED};
-use crate::arity::{
-    take_arity, take_export_arity, take_function_arity, take_info_arity, take_info_export,
+use crate::annotation::take_note;
+use crate::attribute::{begin_key, begin_value};
+use crate::clause::{begin_clause, take_clause_note, take_clause_rest, take_clauses};
+use crate::export::{take_export_arity, take_info_export};
+use crate::expr::begin_primop;
+use crate::function::{
+    begin_body, begin_definition_name, begin_function_name, take_definitions, take_function_arity,
+    take_functions, take_info_arity,
 };
-use crate::behind::{take_alias, take_clause_note, take_clause_rest, take_name, take_note, want};
-use crate::constant::begin_value;
-use crate::list::{take_heads, take_more_heads, take_more_parts, take_part, take_parts, take_tail};
-use crate::module::{begin_bindings, begin_body, begin_module, take_module_name};
-use crate::named::{begin_definition_name, begin_function_name, begin_key, begin_primop};
-use crate::pattern::begin_clause;
-use crate::several::{take_clauses, take_definitions, take_functions};
-use crate::state::{Goal, State};
+use crate::goal::Goal;
+use crate::list::{take_heads, take_more_heads, take_tail};
+use crate::module::{begin_module, take_module_name};
+use crate::name::{take_arity, take_name};
+use crate::part::{take_more_parts, take_part, take_parts};
+use crate::pattern::take_alias;
+use crate::state::State;
+use crate::symbol::want;
+use crate::variable::begin_bindings;
+use core_build::{StepFault, UNEXPECTED};
 use hy_core::Token;
 use std::alloc::Global;
 

@@ -8,6 +8,7 @@ use Rattle.hy_core.specs.Refusals.{IsRefusedText}
 use Rattle.hy_core.specs.declared.refusal.RefusalKind.{RefusalKind}
 use Rattle.hy_core.specs.declared.refusal.RefusalKind.TheVariants as k
 use Rattle.hy_core.specs.declared.tree.Module.{Module}
+use Rattle.core_lint.specs.Linted.{IsOfText}
 use Rattle.core_parse.proofs.WholeText.{one_tree}
 use Rattle.core_parse.proofs.OneVerdict.{no_module_is_refused, one_refusal}
 use Rattle.outside.specs.Outside.{Rises, first_bytes, read_limit}
@@ -128,6 +129,13 @@ not_before told files place other kind found at there first refused file stands 
 
 pub same_refusal : (told : Told) (files : List (List ℕ)) (place : ℕ) (kind found : RefusalKind) (at there : ℕ) → IsFirstRefused told files place kind at → IsRefusedWhereTold told files place found there → (found ≡ kind) × (there ≡ at)
 same_refusal told files place kind found at there first refused = one_refusal first.text found kind there at (refused first.file first.text first.stands first.tells) first.refused
+
+-- what is read is of a text
+pub each_of_text : (told : Told) (files : List (List ℕ)) (zs : List Module) → AreReadWhereTold told files zs → AllByRecursion IsOfText zs
+each_of_text told [] [] read = tt
+each_of_text told [] (z ∷ zs) read = absurd read
+each_of_text told (f ∷ fs) [] read = absurd read
+each_of_text told (f ∷ fs) (z ∷ zs) read = ((read.0.0, read.0.2), each_of_text told fs zs read.1)
 
 -- a file with a tree
 read_at : (told : Told) (files : List (List ℕ)) (zs : List Module) (place : ℕ) (file : List ℕ) → AreRead told files zs → slice_get files place ≡ Some file → (z : Module) × IsRead told file z

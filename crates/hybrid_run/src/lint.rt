@@ -1,7 +1,9 @@
+ghost use Rattle.std.specs.List.{AllByRecursion};
 ghost use Rattle.std.specs.Prelude.{◌≡◌, IfOk, IfErr};
 ghost use Rattle.hy_core.specs.Faults.{IsAccepted};
 ghost use Rattle.hy_core.specs.Numbered.{numbered_program};
 ghost use Rattle.hy_core.specs.PreludeModules.{with_prelude};
+ghost use Rattle.core_lint.specs.Linted.{IsOfText};
 ghost use Rattle.hybrid_run.specs.Headline.{StopsLinting};
 
 use crate::fault::TopFault;
@@ -14,6 +16,7 @@ use std::alloc::Global;
 
 /// The program of the modules of the files with its own numbers, or the least fault in it.
 pub fn linted_program(alloc: Global, modules: Vec<Module>) -> Result<Linted, TopFault>
+    requires { AllByRecursion IsOfText modules.items }
     ensures program { IfOk result
         (λ linted. linted.program ≡ numbered_program (with_prelude modules.items)) }
     ensures accepted { IfOk result (λ linted. IsAccepted (with_prelude modules.items)) }

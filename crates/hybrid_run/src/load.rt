@@ -1,5 +1,7 @@
+ghost use Rattle.std.specs.List.{AllByRecursion};
 ghost use Rattle.std.specs.Prelude.{◌≡◌, ◌≤◌, ℕ, List, length, IfOk, IfErr};
 ghost use Rattle.hy_core.specs.Reading.{IsModuleText};
+ghost use Rattle.core_lint.specs.Linted.{IsOfText};
 ghost use Rattle.hybrid_run.specs.CommandLine.{most_files};
 ghost use Rattle.hybrid_run.specs.Loading.{AreReadWhereTold, IsReadWhereTold, StopsAt, StopsLoading, StopsParsing, sourced};
 
@@ -18,6 +20,7 @@ pub fn load_all<S: Sources>(
 ) -> Result<Vec<Module>, TopFault>
     requires { length files.now ≤ most_files }
     ensures loaded { IfOk result (λ zs. AreReadWhereTold (S.told sources.old) files.now zs.items) }
+    ensures texts { IfOk result (λ zs. AllByRecursion IsOfText zs.items) }
     ensures stops { IfErr result (StopsLoading
         (sourced (S.told sources.old) (S.faults sources.old) (S.faults sources.new)) files.now) }
     ensures counts { (name : List ℕ) → S.faults sources.old name ≤ S.faults sources.new name }

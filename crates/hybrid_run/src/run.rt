@@ -1,5 +1,7 @@
+ghost use Rattle.std.specs.List.{AllByRecursion};
 ghost use Rattle.std.specs.Prelude.{◌≡◌, ◌≤◌, List, IfOk, IfErr};
 ghost use Rattle.hy_core.specs.declared.tree.Module.{Module};
+ghost use Rattle.core_lint.specs.Linted.{IsOfText};
 ghost use Rattle.hybrid_run.specs.Faults.{IsSilent, fault_of_answer, status_of_answer};
 ghost use Rattle.hybrid_run.specs.Headline.{IsDoneStatus, Keeps, SaysOfModules, sunk};
 ghost use Rattle.hybrid_run.specs.code.Ready.{IsReady};
@@ -23,6 +25,7 @@ pub fn run_mode<K: Sink, G: Gate>(
     sink: &mut K,
     gate: &G,
 ) -> Result<u8, TopFault>
+    requires { AllByRecursion IsOfText modules.items }
     ensures says { SaysOfModules mode modules.items
         (sunk (K.written sink.old) (K.written sink.new) (K.faults sink.old) (K.faults sink.new))
         (status_of_answer result) (fault_of_answer result) }
@@ -41,6 +44,7 @@ pub fn run_mode<K: Sink, G: Gate>(
 // Writes the canonical texts of the modules, where their program has no fault. They are made
 // first, since the program is given up to get its own numbers.
 fn print_modules<K: Sink>(alloc: Global, modules: Vec<Module>, sink: &mut K) -> Result<u8, TopFault>
+    requires { AllByRecursion IsOfText modules.items }
     ensures says { SaysOfModules Mode.Check modules.items
         (sunk (K.written sink.old) (K.written sink.new) (K.faults sink.old) (K.faults sink.new))
         (status_of_answer result) (fault_of_answer result) }
@@ -65,6 +69,7 @@ fn run_modules<K: Sink, G: Gate>(
     sink: &mut K,
     gate: &G,
 ) -> Result<u8, TopFault>
+    requires { AllByRecursion IsOfText modules.items }
     ensures says { SaysOfModules Mode.Run modules.items
         (sunk (K.written sink.old) (K.written sink.new) (K.faults sink.old) (K.faults sink.new))
         (status_of_answer result) (fault_of_answer result) }

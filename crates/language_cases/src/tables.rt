@@ -1,10 +1,11 @@
 ghost use Rattle.std.specs.Prelude.{◌≡◌, ◌++◌, IfOk, OnOk};
-ghost use Rattle.std.specs.List.{AllZip, flat_map};
+ghost use Rattle.std.specs.List.{AllByRecursion, AllZip, flat_map};
 ghost use Rattle.hy_core.specs.Faults.{IsAccepted};
 ghost use Rattle.hy_core.specs.Numbered.{program_sites};
 ghost use Rattle.hy_core.specs.PreludeModules.{with_prelude};
 ghost use Rattle.hy_core.specs.Reading.{IsModuleText};
 ghost use Rattle.hy_core.specs.Tables.{program_atoms, program_functions};
+ghost use Rattle.core_lint.specs.Linted.{IsOfText};
 ghost use Rattle.language_cases.specs.Tables.{IsTablesAnswer, function_text, kind_name, site_text, table_line, tables_text};
 
 use crate::fault::CaseFault;
@@ -32,7 +33,8 @@ pub fn tables_answer(alloc: Global, texts: &[Text]) -> Result<Vec<u8>, CaseFault
 
 /// The modules of these texts.
 fn modules_of(alloc: Global, texts: &[Text]) -> Result<Vec<Module>, CaseFault>
-    ensures { IfOk result (λ modules. AllZip IsModuleText texts.now modules.items) }
+    ensures trees { IfOk result (λ modules. AllZip IsModuleText texts.now modules.items) }
+    ensures texts { IfOk result (λ modules. AllByRecursion IsOfText modules.items) }
 {
     let mut modules = Vec::new(alloc);
     for text in texts {
@@ -55,6 +57,7 @@ fn module_of(alloc: Global, text: &[u8]) -> Result<Module, CaseFault>
 
 /// The program of these modules, which has no fault, with its own numbers.
 fn linted_of(alloc: Global, modules: Vec<Module>) -> Result<Linted, CaseFault>
+    requires { AllByRecursion IsOfText modules.items }
     ensures accepted { OnOk result (IsAccepted (with_prelude modules.items)) }
     ensures atoms { IfOk result
         (λ linted. linted.atoms ≡ program_atoms (with_prelude modules.items)) }

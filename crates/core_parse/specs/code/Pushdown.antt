@@ -7,8 +7,9 @@ use Rattle.hy_core.specs.Marks.{Marked, Role, Value as OfValue, Arity as OfArity
 use Rattle.hy_core.specs.Numbering.{atom_number, with_atom, variable_number, with_variable, no_tables}
 use Rattle.hy_core.specs.Patterns.{string_pattern}
 use Rattle.hy_core.specs.Expressions.{named_by, string_expr}
-use Rattle.core_parse.specs.code.Tops.{with_top, top_pattern, top_functions, top_names, top_atom, has_pattern}
-use Rattle.core_parse.specs.code.Trees.{built, opened, added, closed, atom_built, name_built, function_name_built, name_added, export_built, names_kept}
+use Rattle.core_build.specs.Tops.{with_top, top_pattern, top_functions, top_names, top_atom, has_pattern}
+use Rattle.core_build.specs.Trees.{built, opened, added, closed, atom_built, name_added, names_kept}
+use Rattle.core_build.specs.code.Forms.{Built, expr_on}
 use Rattle.hy_core.specs.Grammar.{the_module_info, module_of}
 use Rattle.hy_core.specs.declared.token.Symbol.{Symbol}
 use Rattle.hy_core.specs.declared.token.Symbol.TheVariants as w
@@ -23,15 +24,15 @@ use Rattle.hy_core.specs.declared.tree.Pattern.{Pattern}
 use Rattle.hy_core.specs.declared.tree.Pattern.TheVariants as p
 use Rattle.hy_core.specs.declared.tree.Expr.TheVariants as e
 use Rattle.hy_core.specs.declared.tree.Module.{Module}
-use Rattle.core_parse.specs.declared.state.Part.{Part}
-use Rattle.core_parse.specs.declared.state.Part.TheVariants as part
-use Rattle.core_parse.specs.declared.state.Closer.{Closer}
-use Rattle.core_parse.specs.declared.state.Closer.TheVariants as closer
-use Rattle.core_parse.specs.declared.state.Form.TheVariants as f
-use Rattle.core_parse.specs.declared.state.Goal.{Goal}
-use Rattle.core_parse.specs.declared.state.Goal.TheVariants as g
-use Rattle.core_parse.specs.declared.state.Value.{Value}
-use Rattle.core_parse.specs.declared.state.Value.TheVariants as v
+use Rattle.core_build.specs.declared.form.Part.{Part}
+use Rattle.core_build.specs.declared.form.Part.TheVariants as part
+use Rattle.core_parse.specs.declared.goal.Closer.{Closer}
+use Rattle.core_parse.specs.declared.goal.Closer.TheVariants as closer
+use Rattle.core_build.specs.declared.form.Form.TheVariants as f
+use Rattle.core_parse.specs.declared.goal.Goal.{Goal}
+use Rattle.core_parse.specs.declared.goal.Goal.TheVariants as g
+use Rattle.core_build.specs.declared.value.Value.{Value}
+use Rattle.core_build.specs.declared.value.Value.TheVariants as v
 use Rattle.core_parse.specs.declared.state.State.{State}
 
 abbrev pub state : List Goal → List Value → Tables → State
@@ -326,6 +327,17 @@ tail_moved k n gs vs s token =
 abbrev pub on_values : List Goal → Tables → Option (List Value) → Option State
 on_values gs s None = None
 on_values gs s (Some vs) = Some (state gs vs s)
+
+abbrev pub name_built : ℕ → List Value → Built
+name_built n vs =
+    with_top (top_atom vs) (λ k ws. expr_on ws (e.Name (record { name = k; arity = n })))
+
+abbrev pub function_name_built : ℕ → List Value → Built
+function_name_built n vs =
+    with_top (top_atom vs) (λ k ws. Some (v.Name (record { name = k; arity = n }) ∷ ws))
+
+abbrev pub export_built : ℕ → List Value → Built
+export_built n vs = with_top (top_atom vs) (λ k ws. name_added (record { name = k; arity = n }) ws)
 
 -- the arity of a function's name whose atom is on top
 abbrev pub arity_moved : List Goal → List Value → Tables → Token → Option State

@@ -9,11 +9,11 @@ use Rattle.hy_core.specs.declared.refusal.RefusalKind.TheVariants as kinds
 use Rattle.hy_core.specs.declared.refusal.RefusalKind.{RefusalKind}
 use Rattle.hy_core.specs.declared.tree.Module.{Module}
 use Rattle.core_parse.specs.code.Pushdown.{Reading, state, run, start}
-use Rattle.core_parse.specs.declared.state.Goal.{Goal}
+use Rattle.core_parse.specs.declared.goal.Goal.{Goal}
 use Rattle.hy_core.specs.declared.refusal.RefusalKind.TheVariants.{Unexpected}
 use Rattle.core_parse.specs.declared.state.State.{State}
-use Rattle.core_parse.specs.declared.answer.StepFault.{StepFault}
-use Rattle.core_parse.specs.declared.answer.StepFault.TheVariants as steps
+use Rattle.core_build.specs.declared.fault.StepFault.{StepFault}
+use Rattle.core_build.specs.declared.fault.StepFault.TheVariants as steps
 use Rattle.core_parse.specs.declared.answer.TokenAnswer.{TokenAnswer}
 use Rattle.core_parse.specs.declared.answer.TokenAnswer.TheVariants as tokens
 use Rattle.core_parse.specs.declared.answer.ReadAnswer.{ReadAnswer}
@@ -32,6 +32,12 @@ abbrev pub GivesReading : Result Module TokenAnswer → Reading → Type 0
 GivesReading (Ok z) o = o ≡ Ok z
 GivesReading (Err (tokens.Refused r)) o = o ≡ Err (r.kind, r.index)
 GivesReading (Err tokens.Memory) o = Unit {0}
+
+-- this, or none, or want of memory
+abbrev pub GivesModule : {A : Type 0} → Result A StepFault → Option A → Type 0
+GivesModule (Ok z) o = o ≡ Some z
+GivesModule (Err (steps.Refused kind)) o = o ≡ None
+GivesModule (Err steps.Memory) o = Unit {0}
 
 -- the goal that takes the next token, above those that are left; or that none is left, or why there
 -- is none

@@ -52,6 +52,8 @@ invariant_of-result c =
       of_accepted = ∣ (
         program,
         record {
+          read = c.requires.read;
+          own_prelude = c.requires.prelude;
           accepted = accepted program none (no_size program c.in_ok-numbered.ensures.within few);
           trees = c.in_ok-numbered.ensures.program;
           own_atoms = c.in_ok-atoms.ensures.table ∙ c.in_ok-places.ensures;

@@ -1,0 +1,4 @@
+pub mod code
+pub mod Steps
+pub mod Tops
+pub mod Trees

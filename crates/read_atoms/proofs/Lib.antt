@@ -1,0 +1,4 @@
+pub mod Below
+pub mod GrammarAtoms
+pub mod OwnAtoms
+pub mod PreludeAtoms
