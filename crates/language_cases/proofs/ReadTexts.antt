@@ -1,8 +1,9 @@
 use Rattle.std.proofs.Common.{◌≡◌, ◌∙◌, get_or, ℕ, suc, ◌+◌, ◌<◌, List, [], ◌∷◌, ◌++◌, length, take, arith, sym, ap, subst}
-use Rattle.std.specs.List.{AllZip}
+use Rattle.std.specs.List.{AllByRecursion, AllZip}
 use Rattle.std.proofs.Math.Seq.{take-suc}
 use Rattle.hy_core.specs.Reading.{IsModuleText}
 use Rattle.hy_core.specs.declared.tree.Module.{Module}
+use Rattle.core_lint.specs.Linted.{IsOfText}
 
 -- a pair more at the end
 zip_last : {A B : Type 0} (R : A → B → Type 0) (xs : List A) (ys : List B) (x : A) (y : B) →
@@ -25,3 +26,11 @@ read_next texts i zs items text z below there read one is =
     (subst (λ (ys : List Module). AllZip IsModuleText (take (suc i) texts) ys) (sym is)
     (subst (λ (xs : List (List ℕ)). AllZip IsModuleText xs (zs ++ z ∷ [])) (sym front)
     (zip_last IsModuleText (take i texts) zs text z read one)))
+
+-- each of these modules is that of a text
+pub each_of_text : (texts : List (List ℕ)) (zs : List Module) → AllZip IsModuleText texts zs →
+    AllByRecursion IsOfText zs
+each_of_text [] [] all = tt
+each_of_text [] (z ∷ zs) all = absurd all
+each_of_text (text ∷ texts) [] all = absurd all
+each_of_text (text ∷ texts) (z ∷ zs) all = ((text, all.0), each_of_text texts zs all.1)

@@ -1,6 +1,6 @@
-use Rattle.std.proofs.Common.{◌∙◌, arith}
+use Rattle.std.proofs.Common.{◌∙◌, arith, take}
 use Rattle.hybrid_run.specs.Loading.{StopsLoading, sourced}
-use Rattle.hybrid_run.proofs.Loaded.{read_next, stops_loading}
+use Rattle.hybrid_run.proofs.Loaded.{each_of_text, read_next, stops_loading}
 use Rattle.hybrid_run.proofs.Residuals.{fault_handed_on}
 use Rattle.hybrid_run.proofs.load.load_all.Goals as goal
 
@@ -22,3 +22,8 @@ loop-place-preserved g c = record {
   same = λ other. c.load.ensures.same other ∙ c.loop-place.invariant.same other;
   counts = λ other. (let before = c.loop-place.invariant.counts other in let now = c.load.ensures.counts other in omega (arith, before, now));
 }
+
+pub returns-clause-texts : goal.returns-clause-texts
+returns-clause-texts g c =
+    each_of_text (g.S.Sources.told c.args.sources.now) (take c.loop-place.place c.args.files.now)
+    c.loop-place.modules.items c.loop-place.invariant.read
