@@ -4,9 +4,9 @@ use Rattle.hy_core.specs.Numbered.{function_count}
 use Rattle.hy_core.specs.Resolved.{Patterns}
 use Rattle.hy_core.specs.Scopes.{Scope, with_variables, with_patterns}
 use Rattle.hy_core.specs.Syntax as s
-use Rattle.hy_core.specs.Syntax.{Syntax, Syntaxes, NoSyntax, MoreSyntax, syntax_of, definitions_of}
-use Rattle.hy_core.specs.Syntax.{Clauses, NoClauses, MoreClauses, ClauseSyntax}
-use Rattle.hy_core.specs.Syntax.{Definitions, NoDefinitions, MoreDefinitions, DefinitionSyntax}
+use Rattle.hy_core.specs.Syntax.{Syntax, Syntaxes, NoSyntax, MoreSyntax, syntax_of}
+use Rattle.hy_core.specs.Syntax.{Clauses, NoClauses, MoreClauses}
+use Rattle.hy_core.specs.Syntax.{Definitions, NoDefinitions, MoreDefinitions}
 use Rattle.hy_core.specs.declared.tree.Function.{Function}
 use Rattle.hy_core.specs.declared.tree.FunName.{FunName}
 use Rattle.hy_core.specs.declared.tree.Module.{Module}
@@ -97,17 +97,6 @@ abbrev mutual
 
 abbrev pub gathered_bound : Owner → Gathering → List ℕ → Syntax → Gathering
 gathered_bound o w xs b = back_to (length w.scope) (gathered o (binding w xs) b)
-
-abbrev pub gathered_clause : Owner → Gathering → ClauseSyntax → Gathering
-gathered_clause o w c =
-    back_to (length w.scope) (gathered o (gathered o (matching w c.patterns) c.guard) c.body)
-
-abbrev pub gathered_definition : Owner → Gathering → DefinitionSyntax → Gathering
-gathered_definition o w f = gathered_bound (beginning w) (begun o w) f.parameters f.body
-
-abbrev pub gathered_letrec : Owner → Gathering → Definitions → Syntax → Gathering
-gathered_letrec o w fs e =
-    leaving (length w.around) (gathered o (gathered_definitions o (entering w fs) fs) e)
 
 -- the functions of modules
 abbrev pub gathered_function : Gathering → Function → Gathering
