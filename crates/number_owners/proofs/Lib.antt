@@ -5,3 +5,6 @@ pub mod ProgramShares
 pub mod SameEvents
 pub mod SameOwners
 pub mod Shares
+pub mod SuppliedEvents
+pub mod WrittenOwners
+pub mod WrittenPrograms

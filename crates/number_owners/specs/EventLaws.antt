@@ -1,13 +1,21 @@
 -- What is so of the functions in which events stand. Each law is the clause of a function in the
 -- module `laws`.
-use Rattle.std.specs.Prelude.{◌≡◌, ℕ, suc, List, [], ◌∷◌}
+use Rattle.std.specs.Prelude.{◌≡◌, ℕ, suc, List, [], ◌∷◌, length}
+use Rattle.std.specs.List.{All}
 use Rattle.hy_core.specs.KnownTrees.{TreesAreKnown}
-use Rattle.hy_core.specs.Resolved.{FunctionTree}
+use Rattle.hy_core.specs.ProgramTrees.{function_trees}
+use Rattle.hy_core.specs.Resolve.{Names}
+use Rattle.hy_core.specs.Resolved.{Expression, FunctionTree}
+use Rattle.hy_core.specs.Supplied.{Supply, supplied}
+use Rattle.hy_core.specs.declared.tree.Module.{Module}
 use Rattle.lifted_numbers.specs.TreeNumbers.{numbers}
 use Rattle.lifted_program.specs.LiftedProgram.{lifted_program}
 use Rattle.lifted_program.specs.Renaming.{renamed_program}
+use Rattle.lifted_syntax.specs.LiftingLaws.{modules_resolved}
+use Rattle.lifted_syntax.specs.Whole.{IsWhole}
 use Rattle.number_owners.specs.ChosenNumbers.{chosen}
-use Rattle.number_owners.specs.EventOwners.{program_event_owners, program_events}
+use Rattle.number_owners.specs.EventOwners.{event_owners, program_event_owners, program_events}
+use Rattle.number_owners.specs.WrittenOwners.{program_written_owners}
 
 -- renaming leaves the events of a program, and the functions in which they stand
 abbrev pub RenamedEventsStay : Type 0
@@ -29,3 +37,17 @@ LiftedHaveOwnEvents =
     (captured : ℕ → List ℕ) (program : List FunctionTree) → TreesAreKnown program
     → HaveOwnEvents (program_event_owners program) (program_events program) 0
     (lifted_program captured program)
+
+-- a tree that is supplied with as many numbers of events as it has events has these
+abbrev pub SuppliedEventsAreTaken : Type 0
+SuppliedEventsAreTaken =
+    (e : Expression) (s : Supply) → length (event_owners 0 0 e) ≡ length s.events
+    → (numbers (supplied e s)).events ≡ s.events
+
+-- the owners of the events of a program's trees are those of its syntax, where no form is refused
+abbrev pub WrittenOwnersAreTrees : Type 0
+WrittenOwnersAreTrees =
+    (names : Names) (sites : List ℕ) (ms : List Module)
+    → All (λ f. IsWhole f.body) (modules_resolved names ms)
+    → program_event_owners (function_trees names sites ms)
+    ≡ program_written_owners names.atoms ms

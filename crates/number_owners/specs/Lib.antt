@@ -3,3 +3,4 @@ pub mod EventLaws
 pub mod EventOwners
 pub mod SiteLaws
 pub mod SiteOwners
+pub mod WrittenOwners

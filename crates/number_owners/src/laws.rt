@@ -1,7 +1,12 @@
 //! Laws of the functions in which sites and events stand. Each function does nothing: its clauses
 //! are the laws.
 
-ghost use Rattle.number_owners.specs.EventLaws.{LiftedHaveOwnEvents, RenamedEventsStay};
+ghost use Rattle.number_owners.specs.EventLaws.{
+  LiftedHaveOwnEvents,
+  RenamedEventsStay,
+  SuppliedEventsAreTaken,
+  WrittenOwnersAreTrees,
+};
 ghost use Rattle.number_owners.specs.SiteLaws.{AcceptedProgramsHaveOwners, LiftedHaveOwnSites};
 
 /// The functions in which the sites of a program's trees stand, in the order of the text, are those
@@ -17,4 +22,12 @@ pub fn sites_are_their_functions()
 pub fn events_are_their_functions()
     ensures renamed { RenamedEventsStay }
     ensures lifted { LiftedHaveOwnEvents }
+{}
+
+/// The functions in which the events of a program's trees stand can be told from its syntax, where
+/// no form is refused. A tree has the numbers of events that are supplied to it, where these are as
+/// many.
+pub fn events_of_trees_are_written()
+    ensures owners { WrittenOwnersAreTrees }
+    ensures taken { SuppliedEventsAreTaken }
 {}
