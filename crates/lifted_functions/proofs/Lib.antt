@@ -1,0 +1,10 @@
+pub mod Arguments
+pub mod ExtractedByTables
+pub mod ExtractedForms
+pub mod Leaving
+pub mod LiftedByTables
+pub mod LiftedForms
+pub mod Noting
+pub mod Numbering
+pub mod ProgramByTables
+pub mod Steps

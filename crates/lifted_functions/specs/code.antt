@@ -1,0 +1,5 @@
+pub mod CapturedLists
+pub mod Extraction
+pub mod FunctionNumbers
+pub mod Lifting
+pub mod Programs
