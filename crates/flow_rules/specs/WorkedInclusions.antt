@@ -117,6 +117,8 @@ pub record Trees : Type 0 where
       ≡ Whole Message (Register 7 3) ∷ Whole (Register 7 0) (Result 7) ∷ []
 
 pub record WorkedInclusions : Type 0 where
+  -- of no function, what stands in what is sent is sent
+  pub empty : code_inclusions [] ≡ Parts Sent Sent ∷ []
   pub goes_round : code_inclusions loop_code.functions ≡ all_inclusions
   pub operations : Operations
   pub tests : Tests
