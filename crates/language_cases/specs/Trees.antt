@@ -1,8 +1,10 @@
 -- What is written for a text: its module, or its refusal. This project's own.
-use Rattle.std.specs.Prelude.{◌≡◌, ℕ, List, [], ◌∷◌, ◌++◌, codes, take, drop}
+use Rattle.std.specs.Prelude.{◌≡◌, ℕ, List, [], ◌∷◌, ◌++◌, codes, take, drop, ◌⊎◌}
 use Rattle.std.specs.Fmt.{decimal}
 use Rattle.hy_terms.specs.Texts.{quoted}
 use Rattle.hy_core.specs.Canonical.{canonical_text}
+use Rattle.hy_core.specs.Reading.{IsModuleText}
+use Rattle.hy_core.specs.Refusals.{IsRefusedText}
 use Rattle.hy_core.specs.declared.refusal.RefusalKind.{RefusalKind}
 use Rattle.hy_core.specs.declared.tree.Module.{Module}
 use Rattle.hybrid_run.specs.Faults.{kind_name}
@@ -24,3 +26,10 @@ refused_answer text kind place =
     ++ codes " "
     ++ quoted 96 (take most_there (drop place text))
     ++ 10 ∷ []
+
+-- what is written for a text: of the module that it is, or of its refusal
+abbrev pub IsTreeAnswer : (text answer : List ℕ) → Type 0
+IsTreeAnswer text answer =
+    ((z : Module) × IsModuleText text z × (answer ≡ module_answer z))
+    ⊎ ((kind : RefusalKind) × (place : ℕ) × IsRefusedText text kind place
+    × (answer ≡ refused_answer text kind place))

@@ -1,6 +1,6 @@
 ghost use Rattle.std.specs.Prelude.{◌≡◌, ◌++◌, IfOk, OnOk};
 ghost use Rattle.hybrid_run.specs.Faults.{kind_name};
-ghost use Rattle.language_cases.specs.Trees.{module_answer, refused_answer};
+ghost use Rattle.language_cases.specs.Trees.{IsTreeAnswer, module_answer, refused_answer};
 
 use crate::fault::CaseFault;
 use crate::pieces::{push_names, push_shortened, there};
@@ -11,7 +11,9 @@ use std::alloc::Global;
 
 /// The canonical text of the module that a text is read as, with its tables of atoms and variables,
 /// or its refusal with what stands there.
-pub fn tree_answer(alloc: Global, text: &[u8]) -> Result<Vec<u8>, CaseFault> {
+pub fn tree_answer(alloc: Global, text: &[u8]) -> Result<Vec<u8>, CaseFault>
+    ensures { IfOk result (λ answer. IsTreeAnswer text.now answer.items) }
+{
     match read_module(alloc, text) {
         Ok(module) => module_text(alloc, &module),
         Err(ReadAnswer::Refused(refused)) => refused_text(alloc, text, refused),

@@ -46,7 +46,8 @@ pub fn lift_expr(
 ) -> Result<Expr, Memory>
     ensures lifted { IfOk result (λ tree. syntax_of tree
         ≡ lifted_by tables.now current reach.old next.old (syntax_of expr.now)) }
-    ensures next { OnOk result (next.new ≡ next_by tables.now.counts next.old (syntax_of expr.now)) }
+    ensures next { OnOk result
+        (next.new ≡ next_by tables.now.counts next.old (syntax_of expr.now)) }
     ensures reach { OnOk result (reach.new ≡ reach.old) }
 {
     let alloc = tables.alloc;
@@ -167,7 +168,8 @@ fn lift_boxed(
 ) -> Result<Boxed<Expr>, Memory>
     ensures lifted { IfOk result (λ tree. syntax_of tree
         ≡ lifted_by tables.now current reach.old next.old (syntax_of expr.now)) }
-    ensures next { OnOk result (next.new ≡ next_by tables.now.counts next.old (syntax_of expr.now)) }
+    ensures next { OnOk result
+        (next.new ≡ next_by tables.now.counts next.old (syntax_of expr.now)) }
     ensures reach { OnOk result (reach.new ≡ reach.old) }
 {
     let tree = lift_expr(tables, current, reach, next, expr.get())?;

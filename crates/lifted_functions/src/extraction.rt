@@ -155,7 +155,8 @@ fn extract_each(
     done: &mut Extracted,
     exprs: &Items<Expr>,
 ) -> Result<(), Memory>
-    ensures extracted { OnOk result (state_of done.new ≡ extracted_all_by tables.now current reach.old
+    ensures extracted { OnOk result (state_of done.new
+        ≡ extracted_all_by tables.now current reach.old
         (state_of done.old) (syntaxes_of (map syntax_of exprs.now))) }
     ensures reach { OnOk result (reach.new ≡ reach.old) }
 {
