@@ -7,6 +7,7 @@ use Rattle.hy_core.specs.NodeFaults.{IsForbiddenInGuard, forbidden, IsGuardExpr,
 use Rattle.hy_core.specs.Nodes.{Piece, AnExpr, APattern, FirstPattern, Context, Node, node}
 use Rattle.hy_core.specs.NodeParts.{atom_layer}
 use Rattle.hy_core.specs.Resolve.{are_two_or_three}
+use Rattle.hy_core.specs.declared.bif.Bif.{Bif}
 use Rattle.hy_core.specs.declared.fault.Form.{Form}
 use Rattle.hy_core.specs.declared.fault.Form.TheVariants.{Absent}
 use Rattle.hy_core.specs.declared.place.Place.{Place}
@@ -19,13 +20,13 @@ use Rattle.hy_core.specs.declared.tree.Expr.TheVariants as v
 use Rattle.hy_core.specs.declared.tree.Expr.TheViews.{out-Expr, roll-Expr, roll-out-Expr, outs-Int, outs-Atom, outs-Nil, outs-Var, outs-Let, outs-Call, outs-Try}
 use Rattle.hy_core.specs.declared.tree.Function.{Function}
 use Rattle.hy_core.specs.declared.tree.Module.{Module}
-use Rattle.core_names.specs.Called.{called, does_of}
+use Rattle.core_names.specs.Called.{called, built_in_as}
 use Rattle.core_lint.specs.code.GuardForm.{has_guard_form, is_false, is_variable, is_whole_guard}
 use Rattle.core_lint.specs.code.Guards.{guarded, is_allowed, is_plain}
 use Rattle.core_walk.specs.Walk.{form_at, form_if}
 use Rattle.core_names.specs.declared.built_in.BuiltIn.{BuiltIn}
-use Rattle.core_names.specs.declared.built_in.BuiltIn.TheVariants.{Plain, Setelement, Spawn, Other}
-use Rattle.core_names.proofs.CalledLemmas.{does-Plain}
+use Rattle.core_names.specs.declared.built_in.BuiltIn.TheVariants.{Plain}
+use Rattle.core_names.proofs.CalledLemmas.{operation-is}
 use Rattle.core_lint.proofs.Exact.{IsExact}
 use Rattle.core_lint.proofs.OfKind.{AtNoFunction, GuardAt}
 use Rattle.core_lint.proofs.RepeatedExact.{form_if-Some}
@@ -99,12 +100,10 @@ guard_form-complete m t (three_caught x a b c d n text) = (x, a ∷ [], v.Var a,
         ap (λ b. b && (are_two_or_three caught && is_false m (out-Expr (v.Atom n)))) (ap (is_variable a) (outs-Var a) ∙ eq-eqb a a refl)
         ∙ ap (λ b. b && is_false m (out-Expr (v.Atom n))) two ∙ ap (is_false m) (outs-Atom n) ∙ (bytes_eq-Decides (text_of m.atoms n) (codes "false")).1 text
 
-plain-is : (o : Option BuiltIn) → is_plain o ≡ true → o ≡ Some Plain
+plain-is : (o : Option BuiltIn) → is_plain o ≡ true → (b : Bif) × (o ≡ Some (Plain b))
 plain-is None e = absurd cc
-plain-is (Some Plain) e = refl
-plain-is (Some Setelement) e = absurd cc
-plain-is (Some Spawn) e = absurd cc
-plain-is (Some Other) e = absurd cc
+plain-is (Some (Plain b)) e = (b, refl)
+plain-is (Some _) e = absurd cc
 
 pub whole-is : (place : Place) → is_whole_guard place ≡ true → place ≡ WholeGuard
 whole-is Anywhere e = absurd cc
@@ -121,12 +120,12 @@ allowed_at m place (layer.Var x) e = subst (IsGuardExpr m place) (sym (v.rolls-V
 allowed_at m place (layer.Let vars x y) e = subst (IsGuardExpr m place) (sym (v.rolls-Let vars x y)) (let_in vars x y)
 allowed_at m place (layer.Call x y args) e = subst (IsGuardExpr m place) (sym (v.rolls-Call x y args)) (by (atom_layer (out-Expr x)) refl (atom_layer (out-Expr y)) refl (plain-is _ e))
   where
-    by : (a : Option ℕ) → atom_layer (out-Expr x) ≡ a → (b : Option ℕ) → atom_layer (out-Expr y) ≡ b → called m a b (length args) ≡ Some Plain → IsGuardExpr m place (v.Call x y args)
-    by (Some a) p (Some b) q e =
-        let o = does-Plain (operation_named (text_of m.atoms a) (text_of m.atoms b) (length args)) e in
-        subst (λ x. IsGuardExpr m place (v.Call x y args)) (sym (atom-is x a p)) (subst (λ y. IsGuardExpr m place (v.Call (v.Atom a) y args)) (sym (atom-is y b q)) (built_in a b args o.0 o.1))
-    by (Some a) p None q e = absurd cc
-    by None p b q e = absurd cc
+    by : (a : Option ℕ) → atom_layer (out-Expr x) ≡ a → (b : Option ℕ) → atom_layer (out-Expr y) ≡ b → (f : Bif) × (called m.atoms a b (length args) ≡ Some (Plain f)) → IsGuardExpr m place (v.Call x y args)
+    by (Some a) p (Some b) q (f, e) =
+        let o = operation-is (operation_named (text_of m.atoms a) (text_of m.atoms b) (length args)) (Plain f) e in
+        subst (λ x. IsGuardExpr m place (v.Call x y args)) (sym (atom-is x a p)) (subst (λ y. IsGuardExpr m place (v.Call (v.Atom a) y args)) (sym (atom-is y b q)) (built_in a b args f o))
+    by (Some a) p None q (f, e) = absurd cc
+    by None p b q (f, e) = absurd cc
 allowed_at m place (layer.Try x vars y caught z) e =
     let h = and-both (is_whole_guard place) (has_guard_form m vars (out-Expr y) caught (out-Expr z)) e in
     subst (IsGuardExpr m place) (sym (v.rolls-Try x vars y caught z)) (subst (λ p. IsGuardExpr m p (v.Try x vars y caught z)) (sym (whole-is place h.0)) (whole (v.Try x vars y caught z) (guard_form-sound m x vars y caught z h.1)))
@@ -140,9 +139,9 @@ allowed_kept m place x (variable y) = ap (is_allowed m place) (outs-Var y)
 allowed_kept m place x (let_in vars y z) = ap (is_allowed m place) (outs-Let vars y z)
 allowed_kept m place x (built_in a b args bif e) =
     ap (is_allowed m place) (outs-Call (v.Atom a) (v.Atom b) args)
-    ∙ ap (λ z. is_plain (called m (atom_layer z) (atom_layer (out-Expr (v.Atom b))) (length args))) (outs-Atom a)
-    ∙ ap (λ z. is_plain (called m (Some a) (atom_layer z) (length args))) (outs-Atom b)
-    ∙ ap is_plain (ap does_of e)
+    ∙ ap (λ z. is_plain (called m.atoms (atom_layer z) (atom_layer (out-Expr (v.Atom b))) (length args))) (outs-Atom a)
+    ∙ ap (λ z. is_plain (called m.atoms (Some a) (atom_layer z) (length args))) (outs-Atom b)
+    ∙ ap is_plain (ap built_in_as e)
 allowed_kept m place x (whole t h) = by (guard_form-complete m t h)
   where
     by : ((x : Expr) × (vars : List ℕ) × (y : Expr) × (caught : List ℕ) × (z : Expr) × (t ≡ v.Try x vars y caught z) × (has_guard_form m vars (out-Expr y) caught (out-Expr z) ≡ true)) → is_allowed m WholeGuard (out-Expr t) ≡ true

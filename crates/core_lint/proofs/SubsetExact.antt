@@ -23,13 +23,13 @@ use Rattle.hy_core.specs.declared.tree.Expr.TheVariants as v
 use Rattle.hy_core.specs.declared.tree.Expr.TheViews.{out-Expr, roll-Expr, roll-out-Expr, outs-Int, outs-Atom, outs-Nil, outs-Name, outs-List, outs-Apply, outs-Call, outs-Primop, outs-Try, outs-Catch, outs-Fun}
 use Rattle.hy_core.specs.declared.tree.Function.{Function}
 use Rattle.hy_core.specs.declared.tree.Module.{Module}
-use Rattle.core_names.specs.Called.{called, does_of}
+use Rattle.core_names.specs.Called.{called, built_in_as}
 use Rattle.core_lint.specs.code.GuardForm.{has_guard_form, is_whole_guard}
 use Rattle.core_lint.specs.code.ForbiddenForms.{is_applied, is_atom, is_for_timeout, is_name, is_spawn, is_spawnable, is_timeout, is_written_list, or_form, own_form, subset, spawn_form, timeout_form, unless}
 use Rattle.core_walk.specs.Walk.{form_at}
 use Rattle.core_names.specs.declared.built_in.BuiltIn.{BuiltIn}
-use Rattle.core_names.specs.declared.built_in.BuiltIn.TheVariants.{Plain, Setelement, Spawn, Other}
-use Rattle.core_names.proofs.CalledLemmas.{does-Spawn}
+use Rattle.core_names.specs.declared.built_in.BuiltIn.TheVariants.{Spawn}
+use Rattle.core_names.proofs.CalledLemmas.{operation-is}
 use Rattle.core_lint.proofs.Exact.{IsExact}
 use Rattle.core_lint.proofs.GuardedExact.{and-both, atom-is, guard_form-sound, guard_form-complete, is_rolled, whole-is}
 use Rattle.core_lint.proofs.OfKind.{AtNoFunction, FormAt}
@@ -177,23 +177,21 @@ is-spawnable m args (spawnable x y list n a b l) = both-true (is_atom x && is_at
 
 spawn-is : (o : Option BuiltIn) → is_spawn o ≡ true → o ≡ Some Spawn
 spawn-is None e = absurd cc
-spawn-is (Some Plain) e = absurd cc
-spawn-is (Some Setelement) e = absurd cc
 spawn-is (Some Spawn) e = refl
-spawn-is (Some Other) e = absurd cc
+spawn-is (Some _) e = absurd cc
 
 spawn_at : (m : Module) (y : Expr-F Expr Clause Function) (c : Context) (g : Form) → spawn_form m y ≡ Some g → IsForbiddenForm m (node (AnExpr (roll-Expr y)) c) g
-spawn_at m (layer.Call x y args) c g e = by (is_spawn (called m (atom_layer (out-Expr x)) (atom_layer (out-Expr y)) (length args))) refl e
+spawn_at m (layer.Call x y args) c g e = by (is_spawn (called m.atoms (atom_layer (out-Expr x)) (atom_layer (out-Expr y)) (length args))) refl e
   where
-    with_atoms : (a : Option ℕ) → atom_layer (out-Expr x) ≡ a → (b : Option ℕ) → atom_layer (out-Expr y) ≡ b → called m a b (length args) ≡ Some Spawn → (IsSpawnable m args → ⊥) → IsForbiddenForm m (node (AnExpr (v.Call x y args)) c) form.Spawn
+    with_atoms : (a : Option ℕ) → atom_layer (out-Expr x) ≡ a → (b : Option ℕ) → atom_layer (out-Expr y) ≡ b → called m.atoms a b (length args) ≡ Some Spawn → (IsSpawnable m args → ⊥) → IsForbiddenForm m (node (AnExpr (v.Call x y args)) c) form.Spawn
     with_atoms (Some a) p (Some b) q e h =
-        let o = does-Spawn (operation_named (text_of m.atoms a) (text_of m.atoms b) (length args)) e in
+        let o = operation-is (operation_named (text_of m.atoms a) (text_of m.atoms b) (length args)) Spawn e in
         subst (λ x. IsForbiddenForm m (node (AnExpr (v.Call x y args)) c) form.Spawn) (sym (atom-is x a p))
         (subst (λ y. IsForbiddenForm m (node (AnExpr (v.Call (v.Atom a) y args)) c) form.Spawn) (sym (atom-is y b q)) (a_spawn a b args o h))
     with_atoms (Some a) p None q e h = absurd cc
     with_atoms None p b q e h = absurd cc
 
-    by : (b : Bool) → is_spawn (called m (atom_layer (out-Expr x)) (atom_layer (out-Expr y)) (length args)) ≡ b → (if b then unless (is_spawnable args) form.Spawn else None) ≡ Some g → IsForbiddenForm m (node (AnExpr (roll-Expr (layer.Call x y args))) c) g
+    by : (b : Bool) → is_spawn (called m.atoms (atom_layer (out-Expr x)) (atom_layer (out-Expr y)) (length args)) ≡ b → (if b then unless (is_spawnable args) form.Spawn else None) ≡ Some g → IsForbiddenForm m (node (AnExpr (roll-Expr (layer.Call x y args))) c) g
     by true p e =
         let h = unless-Some (is_spawnable args) form.Spawn g e in
         subst (IsForbiddenForm m (node (AnExpr (roll-Expr (layer.Call x y args))) c)) h.1
@@ -267,9 +265,9 @@ least m n g (a_timeout {c = c} x p h) =
 least m n g (a_spawn {c = c} a b args op h) =
     spawn-least m (v.Call (v.Atom a) (v.Atom b) args) c
     (ap (spawn_form m) (outs-Call (v.Atom a) (v.Atom b) args)
-    ∙ ap (λ z. if is_spawn (called m (atom_layer z) (atom_layer (out-Expr (v.Atom b))) (length args)) then unless (is_spawnable args) form.Spawn else None) (outs-Atom a)
-    ∙ ap (λ z. if is_spawn (called m (Some a) (atom_layer z) (length args)) then unless (is_spawnable args) form.Spawn else None) (outs-Atom b)
-    ∙ ap (λ o. if is_spawn o then unless (is_spawnable args) form.Spawn else None) (ap does_of op)
+    ∙ ap (λ z. if is_spawn (called m.atoms (atom_layer z) (atom_layer (out-Expr (v.Atom b))) (length args)) then unless (is_spawnable args) form.Spawn else None) (outs-Atom a)
+    ∙ ap (λ z. if is_spawn (called m.atoms (Some a) (atom_layer z) (length args)) then unless (is_spawnable args) form.Spawn else None) (outs-Atom b)
+    ∙ ap (λ o. if is_spawn o then unless (is_spawnable args) form.Spawn else None) (ap built_in_as op)
     ∙ ap (λ b. unless b form.Spawn) (false-of (is_spawnable args) (λ e. h (spawnable-is m args e))))
 
 pub subset_exact : IsExact subset FormAt AtNoFunction

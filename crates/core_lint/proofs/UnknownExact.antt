@@ -25,7 +25,7 @@ use Rattle.hy_core.specs.declared.tree.FunName.{FunName}
 use Rattle.hy_core.specs.declared.tree.Function.{Function}
 use Rattle.hy_core.specs.declared.tree.Module.{Module}
 use Rattle.hy_core.specs.declared.tree.Program.{Program}
-use Rattle.core_names.specs.Called.{does_of}
+use Rattle.core_names.specs.Called.{built_in_as}
 use Rattle.core_lint.specs.code.Exports.{ExportTable, has_export}
 use Rattle.core_walk.specs.First.{IsFirst, first_in_modules}
 use Rattle.core_lint.specs.code.UnknownFunctions.{IsUnknownOf, other_arity, unknown_function, calls_unknown, fits_arity, has_other_parameters, is_spawned_absent, is_unknown_call, is_unknown_name, name_layer, own_names, spawns_unknown, unknown, unknown_layer, written_length}
@@ -144,7 +144,7 @@ module _ (program : Program) where
         → IsUnknownFunction program m (node (AnExpr (v.Call x y args)) c)
     call_at m x y args c e = by (atom_layer (out-Expr x)) refl (atom_layer (out-Expr y)) refl e
       where
-        does : (a b : ℕ) (o : Option Operation) → operation_named (text_of m.atoms a) (text_of m.atoms b) (length args) ≡ o → is_unknown_call table m a b args (does_of o) ≡ true
+        does : (a b : ℕ) (o : Option Operation) → operation_named (text_of m.atoms a) (text_of m.atoms b) (length args) ≡ o → is_unknown_call table m a b args (built_in_as o) ≡ true
             → IsUnknownFunction program m (node (AnExpr (v.Call (v.Atom a) (v.Atom b) args)) c)
         does a b None p e = unknown_call a b args p (not-exported (text_of m.atoms a) (text_of m.atoms b) (length args) e)
         does a b (Some (built.Plain f)) p e = absurd cc
@@ -182,12 +182,12 @@ module _ (program : Program) where
 
     -- the layer of a call of two atoms
     call_layer : (m : Module) (c : Context) (a b : ℕ) (args : List Expr) (o : Option Operation) → operation_named (text_of m.atoms a) (text_of m.atoms b) (length args) ≡ o
-        → unknown_layer table m (own_names m) c (out-Expr (v.Call (v.Atom a) (v.Atom b) args)) ≡ form_if (is_unknown_call table m a b args (does_of o))
+        → unknown_layer table m (own_names m) c (out-Expr (v.Call (v.Atom a) (v.Atom b) args)) ≡ form_if (is_unknown_call table m a b args (built_in_as o))
     call_layer m c a b args o op =
         ap (unknown_layer table m (own_names m) c) (outs-Call (v.Atom a) (v.Atom b) args)
         ∙ ap (λ z. form_if (calls_unknown table m (atom_layer z) (atom_layer (out-Expr (v.Atom b))) args)) (outs-Atom a)
         ∙ ap (λ z. form_if (calls_unknown table m (Some a) (atom_layer z) args)) (outs-Atom b)
-        ∙ ap (λ o. form_if (is_unknown_call table m a b args (does_of o))) op
+        ∙ ap (λ o. form_if (is_unknown_call table m a b args (built_in_as o))) op
 
     name_layer-shown : (m : Module) (c : Context) (f : FunName) (args : List Expr)
         → unknown_layer table m (own_names m) c (out-Expr (v.Apply (v.Name f) args)) ≡ form_if (is_unknown_name c.locals (own_names m) (length args) (Some f))

@@ -114,7 +114,7 @@ fn is_spawn(built_in: Option<BuiltIn>) -> bool
 {
     match built_in {
         Some(BuiltIn::Spawn) => true,
-        Some(BuiltIn::Plain | BuiltIn::Setelement | BuiltIn::Other) | None => false,
+        _ => false,
     }
 }
 
@@ -148,7 +148,7 @@ fn spawn_form(names: &Module, expr: &Expr) -> Option<Form>
 {
     match expr {
         Expr::Call { module, name, args } => {
-            if is_spawn(called(names, module.get(), name.get(), args.len())) {
+            if is_spawn(called(&names.atoms, module.get(), name.get(), args.len())) {
                 unless(is_spawnable(args.as_slice()), Form::Spawn)
             } else {
                 None

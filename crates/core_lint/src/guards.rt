@@ -18,8 +18,8 @@ fn is_plain(built_in: Option<BuiltIn>) -> bool
     ensures { result ≡ is_built_in_plain built_in }
 {
     match built_in {
-        Some(BuiltIn::Plain) => true,
-        Some(BuiltIn::Setelement | BuiltIn::Spawn | BuiltIn::Other) | None => false,
+        Some(BuiltIn::Plain(_)) => true,
+        _ => false,
     }
 }
 
@@ -30,7 +30,7 @@ fn is_allowed(names: &Module, place: Place, expr: &Expr) -> bool
     match expr {
         Expr::Int(_) | Expr::Atom(_) | Expr::Nil | Expr::Var(_) | Expr::Let { .. } => true,
         Expr::Call { module, name, args } => {
-            is_plain(called(names, module.get(), name.get(), args.len()))
+            is_plain(called(&names.atoms, module.get(), name.get(), args.len()))
         }
         Expr::Try {
             value: _,

@@ -121,7 +121,7 @@ fn is_unknown_call(
             args.len(),
         ),
         Some(BuiltIn::Spawn) => spawns_unknown(exports, names, args),
-        Some(BuiltIn::Plain | BuiltIn::Setelement | BuiltIn::Other) => false,
+        Some(_) => false,
     }
 }
 
@@ -139,7 +139,7 @@ fn calls_unknown(
     if let Some(place) = atom_of(module)
         && let Some(name_atom) = atom_of(name)
     {
-        let built_in = called(names, module, name, args.len());
+        let built_in = called(&names.atoms, module, name, args.len());
         return is_unknown_call(exports, names, place, name_atom, args, built_in);
     }
     false

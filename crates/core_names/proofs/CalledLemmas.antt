@@ -1,34 +1,29 @@
--- An operation by what it does.
-use Rattle.std.proofs.Common.{◌≡◌, Option, Some, None, refl}
+-- An operation by its built-in.
+use Rattle.std.proofs.Common.{◌≡◌, Option, Some, None, refl, sym, ap, ◌∙◌}
 use Rattle.hy_core.specs.BuiltIn as built
 use Rattle.hy_core.specs.BuiltIn.{Operation}
-use Rattle.hy_core.specs.declared.bif.Bif.{Bif}
-use Rattle.core_names.specs.Called.{does_of}
-use Rattle.core_names.specs.declared.built_in.BuiltIn.TheVariants.{Plain, Setelement, Spawn}
+use Rattle.core_names.specs.Called.{built_in, built_in_as}
+use Rattle.core_names.specs.declared.built_in.BuiltIn.{BuiltIn}
+use Rattle.core_names.specs.declared.built_in.BuiltIn.TheVariants.{Plain, Setelement, Send, Spawn, Display, Raise}
 
-pub does-Plain : (o : Option Operation) → does_of o ≡ Some Plain → (b : Bif) × (o ≡ Some (built.Plain b))
-does-Plain None e = absurd cc
-does-Plain (Some (built.Plain b)) e = (b, refl)
-does-Plain (Some built.SetsElement) e = absurd cc
-does-Plain (Some built.Sends) e = absurd cc
-does-Plain (Some built.Spawns) e = absurd cc
-does-Plain (Some built.Displays) e = absurd cc
-does-Plain (Some (built.RaisesAs class)) e = absurd cc
+abbrev pub operation : BuiltIn → Operation
+operation (Plain b) = built.Plain b
+operation Setelement = built.SetsElement
+operation Send = built.Sends
+operation Spawn = built.Spawns
+operation Display = built.Displays
+operation (Raise class) = built.RaisesAs class
 
-pub does-Spawn : (o : Option Operation) → does_of o ≡ Some Spawn → o ≡ Some built.Spawns
-does-Spawn None e = absurd cc
-does-Spawn (Some (built.Plain b)) e = absurd cc
-does-Spawn (Some built.SetsElement) e = absurd cc
-does-Spawn (Some built.Sends) e = absurd cc
-does-Spawn (Some built.Spawns) e = refl
-does-Spawn (Some built.Displays) e = absurd cc
-does-Spawn (Some (built.RaisesAs class)) e = absurd cc
+undone : (o : Operation) → operation (built_in o) ≡ o
+undone (built.Plain b) = refl
+undone built.SetsElement = refl
+undone built.Sends = refl
+undone built.Spawns = refl
+undone built.Displays = refl
+undone (built.RaisesAs class) = refl
 
-pub does-Setelement : (o : Option Operation) → does_of o ≡ Some Setelement → o ≡ Some built.SetsElement
-does-Setelement None e = absurd cc
-does-Setelement (Some (built.Plain b)) e = absurd cc
-does-Setelement (Some built.SetsElement) e = refl
-does-Setelement (Some built.Sends) e = absurd cc
-does-Setelement (Some built.Spawns) e = absurd cc
-does-Setelement (Some built.Displays) e = absurd cc
-does-Setelement (Some (built.RaisesAs class)) e = absurd cc
+pub operation-is : (o : Option Operation) (b : BuiltIn) → built_in_as o ≡ Some b → o ≡ Some (operation b)
+operation-is None b e = absurd cc
+operation-is (Some o) b e =
+    let same : built_in o ≡ b = cc in
+    sym (ap (λ x. Some x) (undone o)) ∙ ap (λ x. Some (operation x)) same

@@ -1,27 +1,30 @@
--- What a call of a built-in does, as far as the faults and the sites of a program go.
-use Rattle.std.specs.Prelude.{ℕ, Option, Some, None}
+-- Which built-in a call names.
+use Rattle.std.specs.Prelude.{ℕ, List, Option, Some, None}
 use Rattle.hy_terms.specs.Naming.{text_of}
 use Rattle.hy_core.specs.BuiltIn as built
 use Rattle.hy_core.specs.BuiltIn.{Operation, operation_named}
-use Rattle.hy_core.specs.declared.tree.Module.{Module}
+use Rattle.hy_terms.specs.declared.atoms.Atoms.{Atoms}
 use Rattle.core_names.specs.declared.built_in.BuiltIn.{BuiltIn}
-use Rattle.core_names.specs.declared.built_in.BuiltIn.TheVariants.{Plain, Setelement, Spawn, Other}
+use Rattle.core_names.specs.declared.built_in.BuiltIn.TheVariants.{Plain, Setelement, Send, Spawn, Display, Raise}
 
-abbrev pub does : Operation → BuiltIn
-does (built.Plain b) = Plain
-does built.SetsElement = Setelement
-does built.Sends = Other
-does built.Spawns = Spawn
-does built.Displays = Other
-does (built.RaisesAs class) = Other
+abbrev pub built_in : Operation → BuiltIn
+built_in (built.Plain b) = Plain b
+built_in built.SetsElement = Setelement
+built_in built.Sends = Send
+built_in built.Spawns = Spawn
+built_in built.Displays = Display
+built_in (built.RaisesAs class) = Raise class
 
-abbrev pub does_of : Option Operation → Option BuiltIn
-does_of None = None
-does_of (Some operation) = Some (does operation)
+abbrev pub built_in_as : Option Operation → Option BuiltIn
+built_in_as None = None
+built_in_as (Some operation) = Some (built_in operation)
+
+-- the built-in of this module and name
+abbrev pub built_in_of : (module_name name : List ℕ) → (arity : ℕ) → Option BuiltIn
+built_in_of module_name name arity = built_in_as (operation_named module_name name arity)
 
 -- the built-in that a call is whose module and name are these atoms
-abbrev pub called : Module → Option ℕ → Option ℕ → (arity : ℕ) → Option BuiltIn
-called m (Some a) (Some b) arity =
-    does_of (operation_named (text_of m.atoms a) (text_of m.atoms b) arity)
-called m (Some a) None arity = None
-called m None b arity = None
+abbrev pub called : Atoms → Option ℕ → Option ℕ → (arity : ℕ) → Option BuiltIn
+called atoms (Some a) (Some b) arity = built_in_of (text_of atoms a) (text_of atoms b) arity
+called atoms (Some a) None arity = None
+called atoms None b arity = None

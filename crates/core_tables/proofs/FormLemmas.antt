@@ -21,7 +21,7 @@ use Rattle.hy_core.specs.declared.tree.FunName.{FunName}
 use Rattle.hy_core.specs.declared.tree.Function.{Function}
 use Rattle.hy_core.specs.declared.tree.Module.{Module}
 use Rattle.hy_core.specs.declared.tree.Pattern.{Pattern}
-use Rattle.core_names.specs.Called.{does_of}
+use Rattle.core_names.specs.Called.{built_in_as}
 use Rattle.core_names.specs.declared.built_in.BuiltIn.{BuiltIn}
 use Rattle.core_tables.proofs.CallLemmas.{args-does, sites-does}
 use Rattle.core_tables.proofs.CountingLemmas.{of_two, past, then}
@@ -32,7 +32,7 @@ use Rattle.core_tables.specs.code.NumberedParts.{spawned, numbered_clause, numbe
 module _ (table : List (List ℕ)) (m : Module) where
   -- a call whose parts are numbered
   pub call-made : (x y : Expr) (args : List Expr) (function times : ℕ) (built_in : Option BuiltIn) (before : Counts) {n1 n2 n3 after : Counts} {first : ℕ} {a b : Expr} {xs : List Expr}
-      → built_in ≡ does_of (operation_of table m x y args) → times ≡ call_sites built_in
+      → built_in ≡ built_in_as (operation_of table m x y args) → times ≡ call_sites built_in
       → (first, n1) ≡ at_node (replicate times Setelement) made function before → (a, n2) ≡ numbered_tree table m x function n1 → (b, n3) ≡ numbered_tree table m y function n2
       → (xs, after) ≡ built_in_args table m built_in args function n3 → (e.Call a b xs, after) ≡ numbered_layer table m (layer.Call x y args) function before
   call-made x y args function times built_in before {n3 = n3} {a = a} {b = b} is sites p q r s =

@@ -9,6 +9,6 @@ pub fn call_sites(built_in: Option<BuiltIn>) -> usize
 {
     match built_in {
         Some(BuiltIn::Setelement) => 1,
-        Some(BuiltIn::Plain | BuiltIn::Spawn | BuiltIn::Other) | None => 0,
+        _ => 0,
     }
 }

@@ -107,7 +107,7 @@ pub fn number_expr(
             Ok(Expr::Apply { what, args })
         }
         Expr::Call { module, name, args } => {
-            let built_in = called(names, module.get(), name.get(), args.len());
+            let built_in = called(&names.atoms, module.get(), name.get(), args.len());
             numbers.build(function, SiteKind::Setelement, call_sites(built_in))?;
             let module = number_boxed(alloc, places, names, numbers, function, module)?;
             let name = number_boxed(alloc, places, names, numbers, function, name)?;

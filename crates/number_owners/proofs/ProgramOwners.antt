@@ -143,7 +143,7 @@ module _ (program : Program)
       ∙ sym (append_assoc these (modules_resolved names ms) (modules_resolved names ns))
 
   -- as many as the program has functions
-  modules_many : (k : ℕ) (ms : List Module) (c : Counts)
+  pub modules_many : (k : ℕ) (ms : List Module) (c : Counts)
       → length (modules_resolved names (numbered_modules table k ms c).0) ≡ function_count ms
   modules_many k [] c = refl
   modules_many k (m ∷ ms) c =

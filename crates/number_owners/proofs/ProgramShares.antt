@@ -85,7 +85,7 @@ all_share part {k = k} {n = n} {m = m} {os = os} {ss = ss} {ps = ps} {ts = ts} {
     second j (inr over) = inr (omega (arith, over, both_long))
 
 module _ (arities : List ℕ) (captured : ℕ → List ℕ) where
-  tops_long : (n : ℕ) (fs : List FunctionTree) → length (lifted_tops captured n fs) ≡ length fs
+  pub tops_long : (n : ℕ) (fs : List FunctionTree) → length (lifted_tops captured n fs) ≡ length fs
   tops_long n [] = refl
   tops_long n (f ∷ fs) = ap (λ c. suc c) (tops_long (n + count f.body) fs)
 

@@ -22,7 +22,7 @@ use Rattle.core_lint.specs.code.GuardForm.{has_guard_form, is_whole_guard}
 use Rattle.core_lint.specs.code.OnExprs.{on_exprs}
 use Rattle.core_walk.specs.Walk.{Forms}
 use Rattle.core_names.specs.declared.built_in.BuiltIn.{BuiltIn}
-use Rattle.core_names.specs.declared.built_in.BuiltIn.TheVariants.{Plain, Setelement, Spawn, Other}
+use Rattle.core_names.specs.declared.built_in.BuiltIn.TheVariants.{Spawn}
 
 abbrev pub is_applied : Place → Bool
 is_applied Anywhere = false
@@ -72,10 +72,8 @@ timeout_form m place y = if is_for_timeout place then unless (is_timeout m y) fo
 
 abbrev pub is_spawn : Option BuiltIn → Bool
 is_spawn None = false
-is_spawn (Some Plain) = false
-is_spawn (Some Setelement) = false
 is_spawn (Some Spawn) = true
-is_spawn (Some Other) = false
+is_spawn (Some built_in) = false
 
 -- nil, or a list notation that ends in nil
 abbrev pub is_written_list : Expr-F Expr Clause Function → Bool
@@ -92,7 +90,7 @@ is_spawnable (x ∷ y ∷ list ∷ z ∷ zs) = false
 
 abbrev pub spawn_form : Module → Expr-F Expr Clause Function → Option Form
 spawn_form m (layer.Call x y args) =
-    if is_spawn (called m (atom_layer (out-Expr x)) (atom_layer (out-Expr y)) (length args))
+    if is_spawn (called m.atoms (atom_layer (out-Expr x)) (atom_layer (out-Expr y)) (length args))
     then unless (is_spawnable args) form.Spawn else None
 spawn_form m _ = None
 

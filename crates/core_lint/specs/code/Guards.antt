@@ -14,14 +14,12 @@ use Rattle.core_lint.specs.code.GuardForm.{has_guard_form, is_whole_guard}
 use Rattle.core_lint.specs.code.OnExprs.{on_exprs}
 use Rattle.core_walk.specs.Walk.{Forms, form_if}
 use Rattle.core_names.specs.declared.built_in.BuiltIn.{BuiltIn}
-use Rattle.core_names.specs.declared.built_in.BuiltIn.TheVariants.{Plain, Setelement, Spawn, Other}
+use Rattle.core_names.specs.declared.built_in.BuiltIn.TheVariants.{Plain}
 
 abbrev pub is_plain : Option BuiltIn → Bool
 is_plain None = false
-is_plain (Some Plain) = true
-is_plain (Some Setelement) = false
-is_plain (Some Spawn) = false
-is_plain (Some Other) = false
+is_plain (Some (Plain b)) = true
+is_plain (Some built_in) = false
 
 -- a guard may hold this at such a place
 abbrev pub is_allowed : Module → Place → Expr-F Expr Clause Function → Bool
@@ -31,7 +29,7 @@ is_allowed m place layer.Nil = true
 is_allowed m place (layer.Var x) = true
 is_allowed m place (layer.Let vars value body) = true
 is_allowed m place (layer.Call x y args) =
-    is_plain (called m (atom_layer (out-Expr x)) (atom_layer (out-Expr y)) (length args))
+    is_plain (called m.atoms (atom_layer (out-Expr x)) (atom_layer (out-Expr y)) (length args))
 is_allowed m place (layer.Try value vars body caught answer) =
     is_whole_guard place && has_guard_form m vars (out-Expr body) caught (out-Expr answer)
 is_allowed m place _ = false

@@ -19,7 +19,7 @@ use Rattle.hy_core.specs.declared.tree.Module.{Module}
 use Rattle.hy_core.specs.declared.tree.Program.{Program}
 use Rattle.core_names.specs.Called.{called}
 use Rattle.core_names.specs.declared.built_in.BuiltIn.{BuiltIn}
-use Rattle.core_names.specs.declared.built_in.BuiltIn.TheVariants.{Plain, Setelement, Spawn, Other}
+use Rattle.core_names.specs.declared.built_in.BuiltIn.TheVariants.{Spawn}
 use Rattle.core_lint.specs.code.Exports.{ExportTable, has_export}
 use Rattle.core_walk.specs.Walk.{Forms, form_if}
 
@@ -85,14 +85,12 @@ module _ (table : ExportTable) (m : Module) where
   -- a call of these atoms, which is this built-in or none
   abbrev pub is_unknown_call : (place name : ℕ) → List Expr → Option BuiltIn → Bool
   is_unknown_call place name args None = is_absent place name (length args)
-  is_unknown_call place name args (Some Plain) = false
-  is_unknown_call place name args (Some Setelement) = false
   is_unknown_call place name args (Some Spawn) = spawns_unknown args
-  is_unknown_call place name args (Some Other) = false
+  is_unknown_call place name args (Some built_in) = false
 
   abbrev pub calls_unknown : (place name : Option ℕ) → List Expr → Bool
   calls_unknown (Some a) (Some b) args =
-      is_unknown_call a b args (called m (Some a) (Some b) (length args))
+      is_unknown_call a b args (called m.atoms (Some a) (Some b) (length args))
   calls_unknown (Some a) None args = false
   calls_unknown None b args = false
 
