@@ -9,3 +9,5 @@ pub mod Joins
 pub mod Passing
 pub mod Opening
 pub mod Tries
+pub mod Closes
+pub mod Copies

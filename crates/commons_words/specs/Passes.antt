@@ -1,10 +1,11 @@
 -- A pass, and the commons and the link that it belongs to. The project's own.
-use Rattle.std.specs.Prelude.{◌≡◌, ℕ, [], length}
+use Rattle.std.specs.Prelude.{◌≡◌, ℕ, List, [], ◌∷◌, ◌++◌, length}
 use Rattle.atomic_table.specs.Seated.{TableId}
 use Rattle.commons.specs.declared.view.View.{View}
 use Rattle.commons.specs.Views.{IsSound}
 use Rattle.commons_words.specs.declared.rule.SeatView.{SeatView}
 use Rattle.commons_words.specs.declared.rule.Role.TheVariants.{Process}
+use Rattle.commons_words.specs.Held.{Seated}
 use Rattle.commons_words.specs.declared.passes.WordPass.{WordPass}
 use Rattle.commons_words.specs.declared.word_link.WordLink.{WordLink}
 use Rattle.commons_words.specs.declared.word_commons.WordCommons.{WordCommons}
@@ -58,3 +59,13 @@ pub record IsLinkTo (c : WordCommons) (link : WordLink) : Type 0 where
   pub log_size : log_size_of link ≡ log_size_in c
   pub passes : (p : WordPass) → IsPassIn c p → IsPassOf link p
   pub passes_back : (p : WordPass) → IsPassOf link p → IsPassIn c p
+
+-- a pass with this view was joined into the seat
+abbrev pub with_joined : Seated → View → Seated
+with_joined m u = (record m.0 { joined = m.0.joined ++ u ∷ [] }, m.1)
+
+-- the seat of a pass with the view v, into which the passes with these views were joined
+pub record HasGathered (v : View) (joined : List View) (m : Seated) : Type 0 where
+  pub role : m.0.role ≡ Process
+  pub view : m.0.view ≡ v
+  pub all : m.0.joined ≡ joined

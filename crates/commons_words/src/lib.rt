@@ -4,6 +4,7 @@
 mod link_calls;
 mod passes;
 mod plays;
+mod reading;
 mod rule;
 #[cfg(test)]
 mod tests;
