@@ -89,8 +89,7 @@ settle_allowed a l slots id me p sizes s h homes at fine =
     let sits = seated a l s h id me.0 at p.role in
     let k : ℕ = sits.0.0 in
     let kept = settles_kept a l h.claim k h.log h.area h.views v h.kept sits.0.1 in
-    let mine = h.kept.each k v sits.0.1 in
-    (
+    let mine = h.kept.each k v sits.0.1 in (
       record me.0 { view = settled v },
       keeps,
       tt,

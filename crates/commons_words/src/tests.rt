@@ -36,6 +36,18 @@ impl From<Memory> for Refused {
     }
 }
 
+// What one row of calls answers, on any commons.
+#[derive(Clone, Copy, Debug, PartialEq, Eq)]
+struct Row {
+    pid: u64,
+    sent: u64,
+    read: (u64, u64, bool, bool),
+    known: (u64, u64),
+    room: (u64, u64),
+    refused: Option<AreaFull>,
+    full: u64,
+}
+
 // How many claims a process got, and the refusal of its last one.
 type Claims = (u64, Option<AreaFull>);
 
@@ -69,6 +81,54 @@ fn spawn<C: Commons>(c: &mut C, pass: &mut C::Pass, actor: u64) -> Result<(C::Pa
     let place = c.append(pass, entry)?;
     let child = c.birth(pass)?;
     Ok((child, place + 1))
+}
+
+// Learns the next entry, and looks once more. Answers its place, its cell, whether it is a send, and
+// whether the second look was in vain.
+fn learn<C: Commons>(c: &mut C, pass: &mut C::Pass) -> Result<(u64, u64, bool, bool), Refused>
+    requires pass { C.is_pass c.old pass.old }
+    ensures others { KeepsOthers C.is_pass C.apart C.view c.old pass.old c.new pass.new }
+    ensures refused { OnOk result (
+        (C.view c.new pass.new).refused ≡ (C.view c.old pass.old).refused) }
+    ensures unborn { OnOk result (
+        (C.view c.new pass.new).unborn ≡ (C.view c.old pass.old).unborn) }
+{
+    let place = match c.look(pass) {
+        Some(place) => place,
+        None => return Err(Refused::Unread),
+    };
+    let cell = c.entry(pass, place);
+    let send = entry_kind(c, pass, place) == Entry::Send;
+    let empty = c.look(pass).is_none();
+    Ok((place, cell, send, empty))
+}
+
+// The first process spawns a second one and sends a message, which the second reads. It is told
+// what the first knows, and its claim is refused. Then the first finds the log full.
+fn row_of_calls<C: Commons>(c: &mut C, first: &mut C::Pass) -> Result<Row, Refused>
+    requires pass { C.is_pass c.old first.old }
+    requires ready { IsReady (C.view c.old first.old) 0 (C.view c.old first.old).born }
+{
+    let (mut second, pid) = spawn(c, first, 0)?;
+    let sent = post(c, first, 0)?;
+    let read = learn(c, &mut second)?;
+    c.tell(first, &mut second)?;
+    let known = (c.known(first), c.known(&second));
+    let room = (c.room(first), c.room(&second));
+    let refused = c.claim(&mut second, 257).err();
+    let full = match post(c, first, 0) {
+        Err(Refused::Log(full)) => full.seen,
+        _ => 0,
+    };
+    Ok(Row {
+        pid,
+        sent,
+        read,
+        known,
+        room,
+        refused,
+        full,
+    })
 }
 
 // Sends so many messages one after the other.
@@ -191,7 +251,11 @@ fn claim_many<C: Link>(link: C, pass: C::Pass, most: u64) -> Claims
 }
 
 // Two processes claim in two threads.
-fn claim_both<C: Link, R: Threads + Sync>(rt: &R, link: C, passes: (C::Pass, C::Pass)) -> (Claims, Claims)
+fn claim_both<C: Link, R: Threads + Sync>(
+    rt: &R,
+    link: C,
+    passes: (C::Pass, C::Pass),
+) -> (Claims, Claims)
     requires first { C.is_pass link passes.0 × ((C.view link passes.0).refused ≡ None) }
     requires second { C.is_pass link passes.1 × ((C.view link passes.1).refused ≡ None) }
 {
@@ -319,5 +383,26 @@ fn four_threads_fill_an_area(rt: HostRuntime) -> Result<(), Fail> {
     }
     assert_eq!(rt; granted, 19);
     assert_eq!(rt; found, 256 + 269 + 282 + 295);
+    Ok(())
+}
+
+#[test]
+fn both_commons_answer_the_same(rt: HostRuntime) -> Result<(), Fail> {
+    let (mut plain, mut pass) = PlainCommons::new(rt.alloc(), 256, 2)?;
+    let expected = row_of_calls(&mut plain, &mut pass)?;
+    let (commons, mut pass) = WordCommons::new(rt.alloc(), 256, 2)?;
+    let answers = row_of_calls(&mut commons.link(), &mut pass)?;
+    assert_eq!(rt; answers, expected);
+    assert_eq!(rt; answers.read, (1, 3, true, true));
+    assert_eq!(rt;
+        answers
+            .refused
+            .map(|full| (full.old, full.asked, full.capacity)),
+        Some((7, 257, 256))
+    );
+    assert_eq!(rt;
+        (answers.known, answers.room, answers.full),
+        ((2, 2), (0, 0), 2)
+    );
     Ok(())
 }

@@ -8,8 +8,7 @@ load-requires c =
     let h = c.requires.pass in
     let link = c.args.self.now in
     let sized = link.sized in
-    let me = c.args.pass.now.seat.me in
-    (
+    let me = c.args.pass.now.seat.me in (
       h.table,
       omega arith,
       full_allowed link.table.now.key.area link.table.now.key.log link.table.now.table_id.slots c.args.pass.now.seat.id me (process_at link.area link.log link.table.now.key.area link.table.now.key.log me.0 sized.0 sized.1 h.process)
