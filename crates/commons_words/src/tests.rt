@@ -83,8 +83,8 @@ fn spawn<C: Commons>(c: &mut C, pass: &mut C::Pass, actor: u64) -> Result<(C::Pa
     Ok((child, place + 1))
 }
 
-// Learns the next entry, and looks once more. Answers its place, its cell, whether it is a send, and
-// whether the second look was in vain.
+// Learns the next entry, and looks once more. Answers its place, its cell, whether it is a send,
+// and whether the second look was in vain.
 fn learn<C: Commons>(c: &mut C, pass: &mut C::Pass) -> Result<(u64, u64, bool, bool), Refused>
     requires pass { C.is_pass c.old pass.old }
     ensures others { KeepsOthers C.is_pass C.apart C.view c.old pass.old c.new pass.new }
@@ -104,7 +104,7 @@ fn learn<C: Commons>(c: &mut C, pass: &mut C::Pass) -> Result<(u64, u64, bool, b
 }
 
 // The first process spawns a second one and sends a message, which the second reads. It is told
-// what the first knows, and its claim is refused. Then the first finds the log full.
+// what the first knows. Then the first finds the log full, and the second the area.
 fn row_of_calls<C: Commons>(c: &mut C, first: &mut C::Pass) -> Result<Row, Refused>
     requires pass { C.is_pass c.old first.old }
     requires ready { IsReady (C.view c.old first.old) 0 (C.view c.old first.old).born }
@@ -115,11 +115,11 @@ fn row_of_calls<C: Commons>(c: &mut C, first: &mut C::Pass) -> Result<Row, Refus
     c.tell(first, &mut second)?;
     let known = (c.known(first), c.known(&second));
     let room = (c.room(first), c.room(&second));
-    let refused = c.claim(&mut second, 257).err();
     let full = match post(c, first, 0) {
         Err(Refused::Log(full)) => full.seen,
         _ => 0,
     };
+    let refused = c.claim(&mut second, 257).err();
     Ok(Row {
         pid,
         sent,
@@ -303,8 +303,8 @@ fn actor_and_cell(area: &[u64], word: u64) -> Option<(u64, u64)> {
     Some((payload(*actor), cell))
 }
 
-// Whether each of the two actors made a hundred of the entries, and each has its own in the order in
-// which it claimed their blocks.
+// Whether each of the two actors made a hundred of the entries, and each has its own in the order
+// in which it claimed their blocks.
 fn in_order(log: &[u64], area: &[u64]) -> bool {
     let mut counts = (0u64, 0u64);
     let mut last = (0u64, 0u64);
@@ -368,7 +368,7 @@ fn four_threads_fill_an_area(rt: HostRuntime) -> Result<(), Fail> {
     let (third, _) = spawn(&mut link, &mut first, 0)?;
     let (fourth, _) = spawn(&mut link, &mut first, 0)?;
     let ((a, b), (c, d)) = claim_in_four(&rt, link, (first, second), (third, fourth));
-    // Nine words went to the spawn entries, so 19 blocks of 13 words fill the area to its last word.
+    // Nine words went to the spawn entries, so 19 blocks of 13 fill the area to its last word.
     let mut granted = 0u64;
     let mut found = 0u64;
     for (blocks, refusal) in [a, b, c, d].iter() {
@@ -398,7 +398,7 @@ fn both_commons_answer_the_same(rt: HostRuntime) -> Result<(), Fail> {
         answers
             .refused
             .map(|full| (full.old, full.asked, full.capacity)),
-        Some((7, 257, 256))
+        Some((11, 257, 256))
     );
     assert_eq!(rt;
         (answers.known, answers.room, answers.full),
