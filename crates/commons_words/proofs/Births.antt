@@ -1,36 +1,21 @@
 -- A birth keeps the rule of the table.
-use Rattle.std.proofs.Common.{◌≡◌, ◌≢◌, ◌⊎◌, ℕ, zero, suc, ◌+◌, ◌-◌, ◌*◌, ◌^◌, ◌%◌, ◌<◌, ◌≤◌, List, [], ◌∷◌, ◌++◌, length, get_or, set, length-set, length-append, get_or-set_same, get_or-set_other, append_assoc, append-nil, le_refl, le_trans, zero-add, mod-eq_of_lt, lt_of_not-le, sym, refl, ap, ◌∙◌, inl, inr, ⊎_elim, subst, arith, lit<, lit≤, Bool, true, false, ne_eqb, eq-eqb}
-use Rattle.std.specs.Prelude.{slice_index, replicate, ◌==◌, if◌then◌else◌, Option, Some, None}
-use mathlib.Core.Option.{some, none, some-injective, some-ne-none}
+use Rattle.std.proofs.Common.{◌≡◌, ◌≢◌, ℕ, ◌<◌, List, [], ◌∷◌, ◌++◌, length, set, sym, ap, ◌∙◌, ⊎_elim, subst, arith, Bool, ne_eqb, eq-eqb}
+use Rattle.std.specs.Prelude.{◌==◌, if◌then◌else◌, Some}
+use mathlib.Core.Option.{some, some-injective}
 use mathlib.Core.Logic.{dite}
-use native.Mathlib.Decide.{dec_le, ℕ_discrete}
+use native.Mathlib.Decide.{ℕ_discrete}
 use lib.ListN.{get_elem?}
-use Rattle.atomic_table.specs.Table.{State, Me, Act, step, stepped, keeps, Allows, Splits, Joins}
-use prog.Atomic.{either}
-use Rattle.std.proofs.lemmas.List.{get_or_append_left, set-get_or, get_or-append-add, length-replicate}
-use Rattle.hy_words.specs.Lists.{StartsWith, Grown}
-use Rattle.hy_words.specs.Words.{tag_of, payload_of, tag_of_entry, following}
-use Rattle.hy_words.specs.declared.kind.Entry.TheVariants.{Spawn}
+use Rattle.atomic_table.specs.Table.{Splits}
 use Rattle.commons.specs.declared.view.View.{View}
-use Rattle.commons.specs.Area.{IsEntryCell}
-use Rattle.commons.specs.Log.{header_at, actor_of, text_of, prints_at}
-use Rattle.commons.specs.Views.{Fits, MayPut, MayAppend, KnowsPlace, IsAreaSize, IsLogSize, IsSound}
 use Rattle.commons.specs.Rule.{At, IsKept}
-use Rattle.commons.specs.Steps.{first_view, claimed, refused_claim, wrote, read, learnt, looked, appended, bore, born_of, told_of, settled, or_nil}
-use Rattle.commons.specs.Changes.{child_at}
-use Rattle.commons.proofs.Rows.{at_append, once_append, once_cons, at_set, set_again, set_here, set_else, at_snoc, at_longer, at_last}
-use Rattle.commons.proofs.Begins.{at_most_one}
+use Rattle.commons.specs.Steps.{bore, born_of}
+use Rattle.commons.proofs.Rows.{at_set, set_here, set_else, at_snoc, at_longer, at_last}
 use Rattle.commons.proofs.Births.{births_kept}
-use Rattle.commons.proofs.Counts.{claims_low}
-use Rattle.commons.proofs.Cells.{header_not_zero, value_not_zero, inside_of, actor_grows, header_grows, text_grows}
-use Rattle.commons.proofs.Grows.{known_in_log, known_length}
-use Rattle.commons.proofs.Steps.{none_some, sound_at, fits_at, claims_kept, refusals_kept, puts_kept, reads_kept, learns_kept, looks_kept, appends_kept, tells_kept, settles_kept, longer_begins, longer_in_log}
 use Rattle.commons_words.specs.declared.rule.SeatView.{SeatView}
 use Rattle.commons_words.specs.declared.rule.Role.{Role}
 use Rattle.commons_words.specs.declared.rule.Role.TheVariants.{Process, Note, Spent}
-use Rattle.commons_words.specs.Held.{Gathered, gathered, padded, Sits, IsHeld, Seated, TakesView, claim_tells, put_tells, get_tells, look_tells, full_tells, append_tells, settle_tells, entry_tells, won, or_zero, parent_seat, child_seat, note_of, told_by, spent}
-use Rattle.commons_words.specs.Passes.{IsProcess}
-use Rattle.commons_words.proofs.Moves.{not_spent, none_gathered, stand_still, moves, seated, stays, takes_view}
+use Rattle.commons_words.specs.Held.{Gathered, Sits, IsHeld, or_zero, parent_seat, child_seat}
+use Rattle.commons_words.proofs.Moves.{not_spent, none_gathered, stand_still, seated}
 
 below_not : (p q : ℕ) → p < q → p ≢ q
 below_not p q h e = omega arith

@@ -1,5 +1,5 @@
 -- What is left at the close: the rule holds of the words and of the list of passes.
-use Rattle.std.proofs.Common.{◌≡◌, ◌≢◌, ◌⊎◌, ℕ, zero, suc, ◌+◌, ◌<◌, ◌≤◌, List, [], ◌∷◌, ◌++◌, length, sym, refl, ap, ◌∙◌, ⊎_elim, subst, arith, lt_of_not-le}
+use Rattle.std.proofs.Common.{◌≡◌, ℕ, zero, suc, ◌+◌, ◌<◌, List, [], ◌∷◌, ◌++◌, length, sym, refl, ap, ◌∙◌, ⊎_elim, subst, arith, lt_of_not-le}
 use Rattle.std.specs.Prelude.{slice_index}
 use native.Mathlib.Decide.{dec_le}
 use mathlib.Core.Logic.{dite}

@@ -4,9 +4,7 @@ use Rattle.std.specs.Prelude.{replicate}
 use mathlib.Core.Option.{some, some-injective, some-ne-none}
 use lib.ListN.{get_elem?}
 use Rattle.atomic_table.specs.Table.{opening}
-use Rattle.commons.specs.declared.view.View.{View}
 use Rattle.commons.specs.Views.{IsAreaSize, IsLogSize, IsSound}
-use Rattle.commons.specs.Rule.{IsKept}
 use Rattle.commons.specs.Steps.{first_view}
 use Rattle.commons.proofs.PlainOpens.{zeros, opens}
 use Rattle.commons.proofs.Steps.{sound_at}

@@ -1,5 +1,5 @@
 -- A pass whose seat has another view.
-use Rattle.std.proofs.Common.{◌≡◌, ℕ, ◌+◌, ◌≤◌, ◌<◌, List, [], length, sym, refl, ap, ◌∙◌, subst, false, true, arith, lit≤}
+use Rattle.std.proofs.Common.{◌≡◌, ℕ, ◌≤◌, List, [], length, sym, refl, ap, ◌∙◌, subst, false, true, arith, lit≤}
 use Rattle.std.specs.Prelude.{Option, Some, None, IsSome}
 use Rattle.atomic_table.specs.Table.{Me}
 use Rattle.atomic_table.specs.Seated.{TableId}

@@ -1,5 +1,5 @@
 -- An append whose tries so far were lost.
-use Rattle.std.proofs.Common.{◌≡◌, ℕ, ◌<◌, List, ◌++◌, length, sym, ap, ◌∙◌, subst}
+use Rattle.std.proofs.Common.{ℕ, ◌<◌, List, length, sym, ◌∙◌, subst}
 use Rattle.hy_words.specs.Lists.{Has, StartsWith}
 use Rattle.commons.specs.declared.view.View.{View}
 use Rattle.commons.specs.Steps.{knowing}

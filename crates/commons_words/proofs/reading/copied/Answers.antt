@@ -1,4 +1,4 @@
-use Rattle.std.proofs.Common.{◌≡◌, ◌+◌, ◌≤◌, ◌<◌, List, ℕ, sym, subst, arith}
+use Rattle.std.proofs.Common.{◌+◌, List, ℕ, sym, subst, arith}
 use Rattle.std.specs.Mem.Slots.{slots_items}
 use Rattle.commons_words.specs.Reading.{IsRowOf}
 use Rattle.commons_words.proofs.Copies.{row_more}

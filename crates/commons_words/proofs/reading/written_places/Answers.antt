@@ -1,4 +1,4 @@
-use Rattle.std.proofs.Common.{◌≡◌, ◌+◌, ◌≤◌, ◌<◌, ℕ, arith}
+use Rattle.std.proofs.Common.{◌≡◌, arith}
 use Rattle.std.specs.Mem.Slots.{slots_items}
 use Rattle.commons_words.proofs.Copies.{written_more, ends_at}
 use Rattle.commons_words.proofs.reading.written_places.Goals as goal

@@ -1,4 +1,4 @@
-use Rattle.std.proofs.Common.{◌≡◌, sym, subst, refl, [], append-nil}
+use Rattle.std.proofs.Common.{sym, subst, refl, [], append-nil}
 use Rattle.commons.specs.Views.{MayAppend}
 use Rattle.commons_words.specs.Passes.{view_of}
 use Rattle.commons_words.specs.declared.word_link.WordLink.{WordLink}

@@ -1,7 +1,5 @@
-use Rattle.std.proofs.Common.{◌≡◌, ◌+◌, ◌≤◌, ◌<◌, ◌∙◌, ◌++◌, ◌∷◌, [], ℕ, List, sym, ap, arith}
-use Rattle.atomic_table.specs.Table.{Me}
+use Rattle.std.proofs.Common.{◌∙◌, ◌++◌, ◌∷◌, List, ap, arith}
 use Rattle.commons.specs.declared.view.View.{View}
-use Rattle.commons_words.specs.declared.rule.SeatView.{SeatView}
 use Rattle.commons_words.specs.Passes.{view_of}
 use Rattle.commons_words.proofs.Joins.{gather_allowed}
 use Rattle.commons_words.proofs.word_commons.WordCommons.gather.Goals as goal

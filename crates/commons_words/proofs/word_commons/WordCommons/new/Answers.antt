@@ -1,9 +1,8 @@
-use Rattle.std.proofs.Common.{◌≡◌, ◌+◌, ◌∙◌, ℕ, sym, subst, ap, refl, arith, List, [], length}
+use Rattle.std.proofs.Common.{◌≡◌, ◌∙◌, ℕ, sym, subst, refl, [], length}
 use Rattle.atomic_table.specs.Table.{Me}
 use Rattle.commons.specs.Views.{IsSound}
 use Rattle.commons_words.specs.declared.rule.SeatView.{SeatView}
 use Rattle.commons_words.specs.declared.rule.Role.TheVariants.{Process}
-use Rattle.commons_words.specs.Passes.{IsProcess}
 use Rattle.commons_words.proofs.Opening.{table_opens, sound_first}
 use Rattle.commons_words.proofs.word_commons.WordCommons.new.Goals as goal
 

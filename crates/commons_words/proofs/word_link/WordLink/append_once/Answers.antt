@@ -1,4 +1,4 @@
-use Rattle.std.proofs.Common.{◌≡◌, ◌+◌, ◌≤◌, ◌<◌, ◌∙◌, ℕ, sym, subst, arith, ap, Bool, [], ◌∷◌, length-append, eq-eqb, ne_eqb}
+use Rattle.std.proofs.Common.{◌≡◌, ◌+◌, ◌∙◌, ℕ, sym, subst, arith, ap, Bool, [], ◌∷◌, length-append, eq-eqb, ne_eqb}
 use Rattle.std.specs.Prelude.{MatchBool}
 use native.Mathlib.Decide.{ℕ_discrete}
 use mathlib.Core.Logic.{dite}

@@ -1,4 +1,4 @@
-use Rattle.std.proofs.Common.{◌≡◌, ◌+◌, ◌≤◌, ◌<◌, ◌∙◌, ℕ, sym, refl, arith, []}
+use Rattle.std.proofs.Common.{◌∙◌, refl, arith}
 use Rattle.commons.specs.Steps.{bore, born_of}
 use Rattle.commons_words.specs.Held.{or_zero}
 use Rattle.commons_words.proofs.Births.{birth_allowed}

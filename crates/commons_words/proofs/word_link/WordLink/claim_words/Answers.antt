@@ -1,4 +1,4 @@
-use Rattle.std.proofs.Common.{◌≡◌, ◌+◌, ◌≤◌, ◌∙◌, ℕ, sym, subst, arith}
+use Rattle.std.proofs.Common.{arith}
 use Rattle.commons_words.proofs.Claims.{claim_allowed}
 use Rattle.commons_words.proofs.Passing.{process_at, sound_for}
 use Rattle.commons_words.proofs.word_link.WordLink.claim_words.Goals as goal

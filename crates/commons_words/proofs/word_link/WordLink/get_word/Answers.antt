@@ -1,4 +1,4 @@
-use Rattle.std.proofs.Common.{◌≡◌, ◌+◌, ◌≤◌, ◌<◌, ◌∙◌, ℕ, sym, subst, arith, refl, ap, get_or-set_same}
+use Rattle.std.proofs.Common.{◌+◌, ◌∙◌, ℕ, sym, subst, arith, refl, ap, get_or-set_same}
 use Rattle.atomic_table.specs.Table.{Me}
 use Rattle.commons.specs.declared.view.View.{View}
 use Rattle.commons.specs.Steps.{read}

@@ -1,4 +1,4 @@
-use Rattle.std.proofs.Common.{◌≡◌, ◌+◌, ◌≤◌, ◌<◌, ◌∙◌, ℕ, sym, ap, refl, arith}
+use Rattle.std.proofs.Common.{◌+◌, refl, arith}
 use Rattle.commons_words.proofs.Logs.{entry_allowed}
 use Rattle.commons_words.proofs.Passing.{process_at}
 use Rattle.commons_words.proofs.word_link.WordLink.known_entry.Goals as goal

@@ -1,6 +1,5 @@
-use Rattle.std.proofs.Common.{◌≡◌, ◌+◌, ◌≤◌, ◌<◌, ◌∙◌, ℕ, sym, ap, arith}
+use Rattle.std.proofs.Common.{◌∙◌, ℕ, ap, arith}
 use Rattle.atomic_table.specs.Table.{Me}
-use Rattle.commons.specs.Views.{IsAreaSize, IsLogSize}
 use Rattle.commons_words.specs.declared.rule.SeatView.{SeatView}
 use Rattle.commons_words.proofs.Joins.{note_allowed, tell_allowed, settle_allowed}
 use Rattle.commons_words.proofs.Passing.{process_told, sizes_at}
