@@ -1,0 +1,13 @@
+pub mod Moves
+pub mod Places
+pub mod Claims
+pub mod Puts
+pub mod Logs
+pub mod Appends
+pub mod Births
+pub mod Joins
+pub mod Passing
+pub mod Opening
+pub mod Tries
+pub mod Closes
+pub mod Copies

@@ -1,0 +1,4 @@
+pub mod Held
+pub mod Passes
+pub mod Reading
+pub mod Trials
