@@ -87,8 +87,12 @@ fn walk_parts(atoms: &Atoms, owner: u32, walk: &mut Events, expr: &Expr) -> Resu
             timeout,
             body,
         } => {
+            let first = walk.next();
             walk_clauses(atoms, owner, walk, clauses)?;
-            walk_aside(atoms, owner, walk, timeout.get())?;
+            let behind = walk.next();
+            walk.back_to(first);
+            walk_expr(atoms, owner, walk, timeout.get())?;
+            walk.back_to(behind);
             walk_expr(atoms, owner, walk, body.get())
         }
         // The functions of its first part alone have numbers.
@@ -104,7 +108,7 @@ fn walk_parts(atoms: &Atoms, owner: u32, walk: &mut Events, expr: &Expr) -> Resu
             let behind = walk.next();
             walk.back_to(first);
             walk_aside(atoms, owner, walk, body.get())?;
-            walk_aside(atoms, owner, walk, catch_body.get())?;
+            walk_expr(atoms, owner, walk, catch_body.get())?;
             walk.back_to(behind);
             Ok(())
         }

@@ -87,13 +87,14 @@ module _ (atoms : List (List ℕ)) where
     walked_parts k w (s.Primop a es) = walked_all k w es
     walked_parts k w (s.Receive cs t e) =
         let u = walked_clauses k w cs in
-        let v = back u.next (walked_parts k (stepped (is_event atoms t) k u) t) in
-        walked_parts k (stepped (is_event atoms e) k v) e
+        let v = back w.next u in
+        let x = back u.next (walked_parts k (stepped (is_event atoms t) k v) t) in
+        walked_parts k (stepped (is_event atoms e) k x) e
     walked_parts k w (s.Try e xs b ys c) =
         let u = walked_parts k (stepped (is_event atoms e) k w) e in
         let v = back w.next u in
-        let x = back v.next (walked_parts k (stepped (is_event atoms b) k v) b) in
-        back u.next (back x.next (walked_parts k (stepped (is_event atoms c) k x) c))
+        let x = back w.next (walked_parts k (stepped (is_event atoms b) k v) b) in
+        back u.next (walked_parts k (stepped (is_event atoms c) k x) c)
     walked_parts k w (s.Catch e) =
         back w.next (walked_parts k (stepped (is_event atoms e) k w) e)
     walked_parts k w (s.Fun xs e) =
