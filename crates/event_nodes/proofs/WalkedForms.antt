@@ -13,51 +13,57 @@ use Rattle.event_nodes.specs.code.Walked.{Walk, aside, back, walked, walked_clau
 use Rattle.event_nodes.specs.code.Walked.{walked_definitions, walked_parts}
 
 module _ (atoms : List (List ℕ)) (k : ℕ) (w : Walk) where
-  pub walked-Case : {v : Walk} {x : Expr} (value : Expr) (cs : List Clause) → x ≡ e.Case value cs
-      → v ≡ walked atoms k w (syntax_of value)
-      → walked_clauses atoms k v (clauses_of (map clause_syntax cs))
-      ≡ walked_parts atoms k w (syntax_of x)
-  walked-Case value cs is h =
-      ap (λ v. walked_clauses atoms k v (clauses_of (map clause_syntax cs))) h
+  pub walked-Case : {v r : Walk} {x y : Expr} (value : Expr) (cs : List Clause)
+      → x ≡ e.Case value cs → y ≡ value → v ≡ walked atoms k w (syntax_of y)
+      → r ≡ walked_clauses atoms k v (clauses_of (map clause_syntax cs))
+      → r ≡ walked_parts atoms k w (syntax_of x)
+  walked-Case {v} value cs is same first others =
+      let front : v ≡ walked atoms k w (syntax_of value) =
+      first ∙ ap (λ y. walked atoms k w (syntax_of y)) same in
+      others ∙ ap (λ v. walked_clauses atoms k v (clauses_of (map clause_syntax cs))) front
       ∙ sym (ap (walked_parts atoms k w) (ap syntax_of is ∙ syntax-Case value cs))
 
-  pub walked-Letrec : {v : Walk} {x : Expr} (fs : List Function) (b : Expr) → x ≡ e.Letrec fs b
+  pub walked-Letrec : {v r : Walk} {x y : Expr} (fs : List Function) (b : Expr)
+      → x ≡ e.Letrec fs b → y ≡ b
       → v ≡ walked_definitions atoms w (definitions_of (map function_syntax fs))
-      → walked atoms k v (syntax_of b) ≡ walked_parts atoms k w (syntax_of x)
-  walked-Letrec fs b is h =
-      ap (λ v. walked atoms k v (syntax_of b)) h
+      → r ≡ walked atoms k v (syntax_of y) → r ≡ walked_parts atoms k w (syntax_of x)
+  walked-Letrec fs b is same functions body =
+      body ∙ (λ i. walked atoms k (functions i) (syntax_of (same i)))
       ∙ sym (ap (walked_parts atoms k w) (ap syntax_of is ∙ syntax-Letrec fs b))
 
-  pub walked-Receive : {u v y z : Walk} {first behind : ℕ} {x : Expr} (cs : List Clause)
-      (t b : Expr) → x ≡ e.Receive cs t b → first ≡ w.next
+  pub walked-Receive : {u v y z r : Walk} {first behind : ℕ} {x p q : Expr} (cs : List Clause)
+      (t b : Expr) → x ≡ e.Receive cs t b → p ≡ t → q ≡ b → first ≡ w.next
       → u ≡ walked_clauses atoms k w (clauses_of (map clause_syntax cs)) → behind ≡ u.next
-      → v ≡ back first u → y ≡ walked atoms k v (syntax_of t) → z ≡ back behind y
-      → walked atoms k z (syntax_of b) ≡ walked_parts atoms k w (syntax_of x)
-  walked-Receive {u} {v} {y} {z} {first} {behind} cs t b is begin clauses end before timeout last =
+      → v ≡ back first u → y ≡ walked atoms k v (syntax_of p) → z ≡ back behind y
+      → r ≡ walked atoms k z (syntax_of q) → r ≡ walked_parts atoms k w (syntax_of x)
+  walked-Receive {u} {v} {y} {z} {r} {first} {behind} cs t b is own other begin clauses end before
+      timeout last body =
       let d = clauses_of (map clause_syntax cs) in
       let c = walked_clauses atoms k w d in
       let start : v ≡ back w.next c = before ∙ (λ i. back (begin i) (clauses i)) in
       let middle : y ≡ walked atoms k (back w.next c) (syntax_of t) =
-      timeout ∙ ap (λ v. walked atoms k v (syntax_of t)) start in
+      timeout ∙ (λ i. walked atoms k (start i) (syntax_of (own i))) in
       let number : behind ≡ c.next = end ∙ ap (λ (u : Walk). u.next) clauses in
       let whole : z ≡ back c.next (walked atoms k (back w.next c) (syntax_of t)) =
       last ∙ (λ i. back (number i) (middle i)) in
-      ap (λ v. walked atoms k v (syntax_of b)) whole
+      body ∙ (λ i. walked atoms k (whole i) (syntax_of (other i)))
       ∙ sym (ap (walked_parts atoms k w) (ap syntax_of is ∙ syntax-Receive cs t b))
 
-  pub walked-Try : {u v y z r : Walk} {first behind : ℕ} {x : Expr} (a : Expr) (xs : List ℕ)
-      (b : Expr) (ys : List ℕ) (d : Expr) → x ≡ e.Try a xs b ys d → first ≡ w.next
-      → u ≡ walked atoms k w (syntax_of a) → behind ≡ u.next → v ≡ back first u
-      → y ≡ aside atoms k v (syntax_of b) → z ≡ walked atoms k y (syntax_of d)
-      → r ≡ back behind z → r ≡ walked_parts atoms k w (syntax_of x)
-  walked-Try {u} {v} {y} {z} {r} {first} {behind} a xs b ys d is begin value end before body
-      catched last =
+  pub walked-Try : {u v y z r : Walk} {first behind : ℕ} {x o p q : Expr} (a : Expr)
+      (xs : List ℕ) (b : Expr) (ys : List ℕ) (d : Expr) → x ≡ e.Try a xs b ys d → o ≡ a → p ≡ b
+      → q ≡ d → first ≡ w.next → u ≡ walked atoms k w (syntax_of o) → behind ≡ u.next
+      → v ≡ back first u → y ≡ aside atoms k v (syntax_of p)
+      → z ≡ walked atoms k y (syntax_of q) → r ≡ back behind z
+      → r ≡ walked_parts atoms k w (syntax_of x)
+  walked-Try {u} {v} {y} {z} {r} {first} {behind} a xs b ys d is of_value of_body of_catch
+      begin value end before body catched last =
       let c = walked atoms k w (syntax_of a) in
-      let start : v ≡ back w.next c = before ∙ (λ i. back (begin i) (value i)) in
+      let front : u ≡ c = value ∙ ap (λ y. walked atoms k w (syntax_of y)) of_value in
+      let start : v ≡ back w.next c = before ∙ (λ i. back (begin i) (front i)) in
       let middle : y ≡ aside atoms k (back w.next c) (syntax_of b) =
-      body ∙ ap (λ v. aside atoms k v (syntax_of b)) start in
+      body ∙ (λ i. aside atoms k (start i) (syntax_of (of_body i))) in
       let third : z ≡ walked atoms k (aside atoms k (back w.next c) (syntax_of b)) (syntax_of d) =
-      catched ∙ ap (λ v. walked atoms k v (syntax_of d)) middle in
-      let number : behind ≡ c.next = end ∙ ap (λ (u : Walk). u.next) value in
+      catched ∙ (λ i. walked atoms k (middle i) (syntax_of (of_catch i))) in
+      let number : behind ≡ c.next = end ∙ ap (λ (u : Walk). u.next) front in
       last ∙ (λ i. back (number i) (third i))
       ∙ sym (ap (walked_parts atoms k w) (ap syntax_of is ∙ syntax_of-Try a xs b ys d))
