@@ -143,6 +143,10 @@ elsewhere {w} {u} {v} {os} {ps} {bs} {ds} {c} {d} h g =
       nodes = whole.nodes;
     }
 
+pub same_flags : {w v : Walk} {os : List ℕ} {bs ds : List Bool} {c : ℕ} → bs ≡ ds
+    → Goes w v os bs c → Goes w v os ds c
+same_flags {w} {v} {os} {bs} {ds} {c} is h = subst (λ l. Goes w v os l c) is h
+
 -- owners of three parts
 pub flat : {w v : Walk} {bs : List Bool} {c : ℕ} (os ps qs : List ℕ)
     → Goes w v ((os ++ ps) ++ qs) bs c → Goes w v (os ++ (ps ++ qs)) bs c
