@@ -1,0 +1,3 @@
+pub mod EventNodes
+pub mod LiftedEvents
+pub mod code
