@@ -1,4 +1,5 @@
 pub mod CountsGiven
 pub mod NestedCounts
+pub mod Origins
 pub mod Parts
 pub mod code

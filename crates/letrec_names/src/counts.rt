@@ -50,7 +50,7 @@ impl NestedCounts {
 }
 
 // How many functions modules have.
-fn count_functions(modules: &[Module]) -> Result<u32, Memory>
+pub(crate) fn count_functions(modules: &[Module]) -> Result<u32, Memory>
     ensures { IfOk result (λ count. count ≡ function_count modules.now) }
 {
     let mut count: u32 = 0;

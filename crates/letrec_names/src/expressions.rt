@@ -30,7 +30,7 @@ fn finish(counts: &mut Vec<u32>, place: usize) -> Result<(), Memory>
 
 // Puts the counts of an expression behind others.
 #[cycle(pass_expr)]
-fn pass_expr(counts: &mut Vec<u32>, expr: &Expr) -> Result<(), Memory>
+pub(crate) fn pass_expr(counts: &mut Vec<u32>, expr: &Expr) -> Result<(), Memory>
     ensures { OnOk result (counts.new.items ≡ passed counts.old.items (syntax_of expr.now)) }
 {
     match expr {

@@ -5,6 +5,8 @@ mod counts;
 mod expressions;
 pub mod laws;
 mod names;
+mod origins;
 
 pub use counts::{NestedCounts, nested_counts};
 pub use names::LetrecNames;
+pub use origins::function_origins;
