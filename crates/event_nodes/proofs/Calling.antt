@@ -40,7 +40,8 @@ form y =
     definition_of y)
 
 form_is : (y : Expr-F Expr Clause Function) → syntax_of (roll-Expr y) ≡ form y
-form_is = fold-roll-Expr Syntax ClauseSyntax DefinitionSyntax syntax_step clause_step definition_step
+form_is =
+    fold-roll-Expr Syntax ClauseSyntax DefinitionSyntax syntax_step clause_step definition_step
 
 atom_form : (y : Expr-F Expr Clause Function) → atom_of (form y) ≡ atom_layer y
 atom_form (layer.Atom a) = refl

@@ -1,6 +1,7 @@
 -- The nodes of clauses: those of a clause's patterns are no events, and come before its guard and
 -- its body.
-use Rattle.std.proofs.Common.{◌≡◌, ℕ, Bool, false, List, [], ◌∷◌, ◌++◌, map, drop, refl, sym, ap, ◌∙◌}
+use Rattle.std.proofs.Common.{◌≡◌, ℕ, Bool, false, List, [], ◌∷◌, ◌++◌, map, drop}
+use Rattle.std.proofs.Common.{refl, sym, ap, ◌∙◌}
 use Rattle.std.proofs.Common.{append_assoc}
 use Rattle.std.proofs.lemmas.List.{map-append}
 use Rattle.hy_core.specs.Nodes.{Context, Node, node, AnExpr, APattern, binding, clause_nodes}
@@ -15,8 +16,6 @@ use Rattle.hy_core.specs.Syntax.{Syntax, Clauses, MoreClauses, NoClauses, clause
 use Rattle.hy_core.specs.Syntax.{pattern_tree, pattern_trees, syntax_of, tree}
 use Rattle.hy_core.specs.declared.place.Place.TheVariants.{Anywhere}
 use Rattle.hy_core.specs.declared.tree.Clause.{Clause}
-use Rattle.hy_core.specs.declared.tree.Expr.{Expr}
-use Rattle.hy_core.specs.declared.tree.Expr.TheOpen as layer
 use Rattle.hy_core.specs.declared.tree.Expr.TheVariants as e
 use Rattle.hy_core.specs.declared.tree.Expr.TheViews as views
 use Rattle.hy_core.specs.declared.tree.Function.{Function}
@@ -74,7 +73,8 @@ module _ (atoms : List (List ℕ)) where
       ∙ ap (λ y. node (AnExpr whole) outside ∷ parts_layer y outside)
       (views.outs-Case e.Nil (clause_trees cs))
       ∙ ap (λ l. node (AnExpr whole) outside ∷ l ++ behind) value in
-      ap (λ l. drop 2 (flags l)) (sym parts) ∙ ap (drop 2) (events_are atoms (s.Case s.Nil cs) outside)
+      ap (λ l. drop 2 (flags l)) (sym parts)
+      ∙ ap (drop 2) (events_are atoms (s.Case s.Nil cs) outside)
 
   pub clause_flags : (ps : Patterns) (g b : Syntax) (cs : Clauses)
       → none (patterns_in (pattern_trees ps))

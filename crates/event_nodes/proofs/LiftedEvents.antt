@@ -1,6 +1,6 @@
 -- The events of each function of a program are those of its lifted trees, where these are known.
-use Rattle.std.proofs.Common.{◌≡◌, ℕ, zero, suc, ◌+◌, List, [], ◌∷◌, ◌++◌, length, map, refl, sym}
-use Rattle.std.proofs.Common.{ap, ◌∙◌, arith, append_assoc}
+use Rattle.std.proofs.Common.{◌≡◌, ℕ, suc, ◌+◌, List, [], ◌∷◌, ◌++◌, length, map, refl, sym}
+use Rattle.std.proofs.Common.{ap, ◌∙◌, append_assoc}
 use Rattle.std.proofs.lemmas.List.{length-append, length-map}
 use Rattle.std.proofs.lemmas.List.Elements.{All-head, All-tail}
 use Rattle.std.specs.List.{All}
@@ -26,10 +26,9 @@ use Rattle.lifted_syntax.specs.LiftingLaws.{functions_resolved, modules_resolved
 use Rattle.lifted_syntax.specs.Whole.{IsWhole}
 use Rattle.lifted_syntax.proofs.KnownWhole.{known_are_whole}
 use Rattle.lifted_syntax.proofs.LiftedCounts.{counted}
-use Rattle.number_owners.specs.ChosenNumbers.{chosen}
 use Rattle.number_owners.specs.EventLaws.{HaveOwnEvents}
 use Rattle.number_owners.specs.EventOwners.{program_event_owners, program_events}
-use Rattle.number_owners.specs.WrittenOwners.{modules_functions, program_written_owners}
+use Rattle.number_owners.specs.WrittenOwners.{modules_functions}
 use Rattle.number_owners.proofs.ProgramOwners.{letrecs_in}
 use Rattle.number_owners.proofs.ProgramShares.{lifted_own_events, tops_long}
 use Rattle.number_owners.proofs.SuppliedEvents.{events_taken}

@@ -1,6 +1,6 @@
 -- What a walk over a program finds are its events, with the functions in which they stand.
-use Rattle.std.proofs.Common.{◌≡◌, ℕ, suc, ◌+◌, List, [], ◌∷◌, ◌++◌, drop, refl, sym, ap, ◌∙◌, arith}
-use Rattle.std.proofs.Common.{append_assoc, append-nil, false, subst}
+use Rattle.std.proofs.Common.{◌≡◌, ℕ, suc, ◌+◌, List, [], ◌∷◌, ◌++◌, drop, refl}
+use Rattle.std.proofs.Common.{sym, ap, ◌∙◌, arith, append_assoc, append-nil, false, subst}
 use Rattle.hy_core.specs.Numbered.{function_count}
 use Rattle.hy_core.specs.ProgramTrees.{is_event, true_places}
 use Rattle.hy_core.specs.SubPatterns.{patterns_in}
@@ -21,7 +21,8 @@ use Rattle.event_nodes.specs.EventNodes.{program_nodes}
 use Rattle.event_nodes.specs.code.Distributed.{distributed, empty_lists}
 use Rattle.event_nodes.specs.code.Walked.{Walk, begun, nothing_found, walked, walked_all}
 use Rattle.event_nodes.specs.code.Walked.{walked_clauses, walked_definitions, walked_functions}
-use Rattle.event_nodes.specs.code.Walked.{back, defined, passed, stepped, walked_modules, walked_tail}
+use Rattle.event_nodes.specs.code.Walked.{back, defined, passed, stepped, walked_modules}
+use Rattle.event_nodes.specs.code.Walked.{walked_tail}
 use Rattle.event_nodes.specs.declared.events.Event.{Event}
 use Rattle.event_nodes.proofs.ClauseEvents.{clause_flags, function_flags}
 use Rattle.event_nodes.proofs.Distributing.{shared_is}

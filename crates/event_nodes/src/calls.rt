@@ -13,10 +13,8 @@ fn does_event(built_in: Option<BuiltIn>) -> bool
 {
     match built_in {
         Some(BuiltIn::Send) | Some(BuiltIn::Spawn) | Some(BuiltIn::Display) => true,
-        Some(BuiltIn::Plain(_))
-        | Some(BuiltIn::Setelement)
-        | Some(BuiltIn::Raise(_))
-        | None => false,
+        Some(BuiltIn::Plain(_)) | Some(BuiltIn::Setelement) | Some(BuiltIn::Raise(_)) | None =>
+            false,
     }
 }
 

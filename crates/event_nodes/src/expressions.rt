@@ -35,12 +35,8 @@ fn walk_parts(atoms: &Atoms, owner: u32, walk: &mut Events, expr: &Expr) -> Resu
     ensures { OnOk result (walk.new ≡ walked_parts atoms.now owner walk.old (syntax_of expr.now)) }
 {
     match expr {
-        Expr::Int(_)
-        | Expr::Atom(_)
-        | Expr::Nil
-        | Expr::Str(_)
-        | Expr::Var(_)
-        | Expr::Name(_) => Ok(()),
+        Expr::Int(_) | Expr::Atom(_) | Expr::Nil | Expr::Str(_) | Expr::Var(_) | Expr::Name(_) =>
+            Ok(()),
         Expr::Tuple { site: _, parts } | Expr::Values(parts) => {
             walk_each(atoms, owner, walk, parts)
         }

@@ -1,6 +1,6 @@
 -- The events of a program, found as the code does: one part of the syntax after another.
 use Rattle.std.specs.Prelude.{ℕ, ◌+◌, Bool, true, false, if◌then◌else◌, List, [], ◌∷◌, ◌++◌, length}
-use Rattle.std.specs.Prelude.{Option, Some, None}
+use Rattle.std.specs.Prelude.{Option, Some}
 use Rattle.hy_core.specs.ProgramTrees.{is_event}
 use Rattle.hy_core.specs.Resolved.{Patterns}
 use Rattle.hy_core.specs.SubPatterns.{patterns_in}

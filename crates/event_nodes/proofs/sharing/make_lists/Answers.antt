@@ -1,4 +1,4 @@
-use Rattle.std.proofs.Common.{◌∙◌, ap, [], ◌∷◌, ◌++◌}
+use Rattle.std.proofs.Common.{◌∙◌, [], ◌∷◌, ◌++◌}
 use Rattle.event_nodes.proofs.Distributing.{one_more}
 use Rattle.event_nodes.proofs.sharing.make_lists.Goals as goal
 

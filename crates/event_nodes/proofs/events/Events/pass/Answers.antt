@@ -1,4 +1,4 @@
-use Rattle.std.proofs.Common.{◌≡◌, ◌+◌, sym, ap, ◌∙◌, length}
+use Rattle.std.proofs.Common.{◌+◌, sym, ap, ◌∙◌, length}
 use Rattle.std.proofs.lemmas.Result.{on_ok_weaker}
 use Rattle.hy_core.specs.SubPatterns.{patterns_in}
 use Rattle.hy_core.proofs.SyntaxLemmas.{patterns_come_back}
