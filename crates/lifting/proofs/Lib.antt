@@ -1,0 +1,4 @@
+mod Assembling
+mod LiftedWhole
+mod OriginLengths
+mod SameCounts
