@@ -1,5 +1,6 @@
 -- What functions have that are made of their origins, texts and nodes.
-use Rattle.std.proofs.Common.{◌≡◌, ℕ, suc, List, [], ◌∷◌, length, map, refl, ap}
+use Rattle.std.proofs.Common.{◌≡◌, ℕ, suc, List, [], ◌∷◌, ◌++◌, length, map, reverse}
+use Rattle.std.proofs.Common.{refl, sym, ap, ◌∙◌, append-nil}
 use Rattle.std.specs.List.{AllByRecursion}
 use Rattle.hy_core.specs.Resolved.{FunctionTree}
 use Rattle.hy_core.specs.declared.info.SiteInfo.{SiteInfo}
@@ -61,4 +62,28 @@ have_numbers sites k (f ∷ fs) [] same heads own = absurd (cc same)
 have_numbers sites k (f ∷ fs) (t ∷ ts) same heads own =
     let first : f.nodes ≡ events_in t = cc same in
     let rest : map (λ f. f.nodes) fs ≡ map events_in ts = cc same in
-    (heads.0, (first, (own.0, have_numbers sites (suc k) fs ts rest heads.1 own.1)))
+    (heads.0, first, own.0, have_numbers sites (suc k) fs ts rest heads.1 own.1)
+
+-- the functions so far are all, where there is no text left, or no list of nodes
+pub no_text_left : (os : List ℕ) (ts : List LiftedText) (ns : List (List ℕ))
+    (fs all : List LiftedFunction) → ts ≡ []
+    → fs ++ assembled os (reverse ts) (reverse ns) ≡ all → fs ≡ all
+no_text_left os ts ns fs all none same =
+    sym (append-nil fs) ∙ ap (λ l. fs ++ l) (sym (nothing os (reverse ns)))
+    ∙ ap (λ l. fs ++ assembled os (reverse l) (reverse ns)) (sym none) ∙ same
+  where
+    nothing : (os : List ℕ) (ns : List (List ℕ)) → assembled os [] ns ≡ []
+    nothing [] ns = refl
+    nothing (o ∷ os) ns = refl
+
+pub no_nodes_left : (os : List ℕ) (ts : List LiftedText) (ns : List (List ℕ))
+    (fs all : List LiftedFunction) → ns ≡ []
+    → fs ++ assembled os (reverse ts) (reverse ns) ≡ all → fs ≡ all
+no_nodes_left os ts ns fs all none same =
+    sym (append-nil fs) ∙ ap (λ l. fs ++ l) (sym (nothing os (reverse ts)))
+    ∙ ap (λ l. fs ++ assembled os (reverse ts) (reverse l)) (sym none) ∙ same
+  where
+    nothing : (os : List ℕ) (ts : List LiftedText) → assembled os ts [] ≡ []
+    nothing [] ts = refl
+    nothing (o ∷ os) [] = refl
+    nothing (o ∷ os) (t ∷ ts) = refl

@@ -1,5 +1,5 @@
 -- What the passes give is the lifting of a linted program.
-use Rattle.std.proofs.Common.{◌≡◌, ℕ, List, length, map, refl, sym, ap, ◌∙◌, subst}
+use Rattle.std.proofs.Common.{◌≡◌, ℕ, ◌<◌, List, length, map, refl, sym, ap, ◌∙◌, subst}
 use Rattle.std.proofs.lemmas.List.{length-map}
 use Rattle.std.specs.List.{All}
 use Rattle.hy_core.specs.Faults.{IsAccepted}
@@ -11,6 +11,7 @@ use Rattle.hy_core.specs.PreludeModules.{with_prelude}
 use Rattle.hy_core.specs.ProgramTrees.{function_trees}
 use Rattle.hy_core.specs.Resolve.{Names}
 use Rattle.hy_core.specs.Resolved.{FunctionTree}
+use Rattle.hy_core.specs.SameProgram.{SameProgram}
 use Rattle.hy_core.specs.declared.info.SiteInfo.{SiteInfo}
 use Rattle.hy_core.specs.declared.tree.Module.{Module}
 use Rattle.hy_core.specs.declared.tree.Program.{Program}
@@ -20,21 +21,27 @@ use Rattle.core_lint.specs.declared.linted.Linted.{Linted}
 use Rattle.event_nodes.specs.EventNodes.{own_events}
 use Rattle.event_nodes.specs.LiftedEvents.{AreLiftedEvents}
 use Rattle.letrec_names.specs.Origins.{function_origins}
-use Rattle.lifted_functions.specs.Texts.{names_with, texts}
+use Rattle.lifted_functions.specs.Texts.{names_with, text_syntax, texts}
 use Rattle.lifted_functions.specs.declared.lifted_text.LiftedText.{LiftedText}
 use Rattle.lifted_numbers.specs.TreeNumbers.{bare_function}
-use Rattle.lifted_numbers.specs.NumberLaws.{lifted_texts}
 use Rattle.lifted_numbers.proofs.Reading.{program-read, trees_read}
 use Rattle.lifted_program.specs.Captured.{AreCaptured}
 use Rattle.lifted_program.specs.LiftedProgram.{lifted_program}
 use Rattle.lifted_program.specs.LiftingLaws.{lifting_of}
 use Rattle.lifted_program.specs.Renaming.{renamed_program}
+use Rattle.lifted_program.specs.Apart.{FunctionBindsApart}
+use Rattle.lifted_program.specs.Flat.{IsFlat}
+use Rattle.lifted_program.proofs.LiftedApart.{lifted_apart}
+use Rattle.lifted_program.proofs.LiftedFlat.{lifted_flat}
+use Rattle.lifted_program.proofs.RenamedApart.{renamed_apart}
 use Rattle.lifted_program.proofs.RenamedKnown.{renamed_known}
+use Rattle.lifted_program.proofs.Whole.{whole}
 use Rattle.lifted_syntax.specs.ExtractedSyntax as syntax
 use Rattle.lifted_syntax.specs.ExtractedSyntax.{plain_function}
 use Rattle.lifted_syntax.specs.LiftedFunctions.{trees_from}
 use Rattle.lifted_syntax.specs.LiftingLaws.{modules_resolved}
 use Rattle.lifted_syntax.specs.Whole.{IsWhole}
+use Rattle.lifted_syntax.specs.declared.lifted.Lifted.{Lifted}
 use Rattle.lifted_syntax.specs.declared.lifted.LiftedFunction.{LiftedFunction}
 use Rattle.lifted_syntax.proofs.KnownWhole.{known_are_whole}
 use Rattle.list_heads.specs.HeadLaws.{FunctionsHaveHeads}
@@ -43,7 +50,9 @@ use Rattle.list_heads.proofs.TreeHeads.{program_lifted_has}
 use Rattle.number_owners.specs.SiteLaws.{AreSitesOf}
 use Rattle.number_owners.proofs.ProgramOwners.{accepted_owners}
 use Rattle.number_owners.proofs.ProgramShares.{lifted_own_sites}
+use Rattle.renaming.specs.VariableLimit.{variable_limit}
 use Rattle.lifting.specs.Assembled.{assembled}
+use Rattle.lifting.specs.Lifting.{IsLifting, MeansTheSame, LeavesNoLetrec, BindsApart}
 use Rattle.lifting.specs.Lifting.{linted_names, linted_trees}
 use Rattle.lifting.proofs.Assembling.{AreAlike, events_in, have_nodes, have_numbers, have_origins}
 use Rattle.lifting.proofs.Assembling.{have_texts}
@@ -133,9 +142,9 @@ are_lifted linted limit ms captured os ts ns before h p =
     ∙ program-read names sites captured ms whole
     ∙ ap (λ t. map bare_function (lifted_program captured t)) same in
     let many_texts : length ts ≡ length ns =
-    sym (length-map _ ts) ∙ sym (length-map (plain_function names) (texts ts))
-    ∙ ap length read ∙ length-map bare_function target
-    ∙ sym (length-map events_in target) ∙ sym (ap length events) in
+    sym (length-map ts text_syntax) ∙ sym (length-map (texts ts) (plain_function names))
+    ∙ ap length read ∙ length-map target bare_function
+    ∙ sym (length-map target events_in) ∙ sym (ap length events) in
     let alike : AreAlike os ts ns = record {
       origins = ap length p.origins ∙ as_many_origins linted.atoms ms ∙ sym (ap length p.owned);
       texts = many_texts;
@@ -154,3 +163,51 @@ are_lifted linted limit ms captured os ts ns before h p =
       nodes = nodes ∙ sym (ap (map events_in) trees);
       origins = have_origins os ts ns alike;
     }
+
+-- the functions with the tables of the linted program
+abbrev pub made : Linted → List LiftedFunction → Lifted
+made linted fs = record {
+  functions = fs;
+  atoms = linted.atoms;
+  names = linted.functions;
+  sites = linted.sites;
+}
+
+pub is_lifting : (linted : Linted) (limit : ℕ) (captured : ℕ → List ℕ) (os : List ℕ)
+    (fs : List LiftedFunction) → limit ≡ variable_limit linted.program
+    → os ≡ function_origins (modules_of linted.program) → AreLifted linted limit captured os fs
+    → IsLifting linted (made linted fs)
+is_lifting linted limit captured os fs greatest origins are =
+    let at : AreLifted linted (variable_limit linted.program) captured os fs =
+    subst (λ n. AreLifted linted n captured os fs) greatest are in
+    record {
+      captured = captured;
+      known = at.known;
+      exact = at.exact;
+      trees = at.trees;
+      nodes = at.nodes;
+      origins = at.origins ∙ origins;
+    }
+
+-- what follows of it
+
+pub means_the_same : (linted : Linted) (lifted : Lifted) → IsLifting linted lifted
+    → MeansTheSame linted lifted
+means_the_same linted lifted h atoms calls =
+    let source = linted_trees linted in
+    subst (λ t. SameProgram (λ f. f < length source) atoms calls source t) (sym h.trees)
+    (whole (variable_limit linted.program) source h.captured h.known h.exact atoms calls)
+
+pub leaves_no_letrec : (linted : Linted) (lifted : Lifted) → IsLifting linted lifted
+    → LeavesNoLetrec lifted
+leaves_no_letrec linted lifted h =
+    let renamed = renamed_program (variable_limit linted.program) (linted_trees linted) in
+    subst (All (λ f. IsFlat f.body)) (sym h.trees) (lifted_flat h.captured renamed)
+
+pub binds_apart : (linted : Linted) (lifted : Lifted) → IsLifting linted lifted
+    → BindsApart lifted
+binds_apart linted lifted h =
+    let limit = variable_limit linted.program in
+    let renamed = renamed_program limit (linted_trees linted) in
+    subst (All FunctionBindsApart) (sym h.trees)
+    (lifted_apart h.captured renamed h.exact (renamed_apart limit (linted_trees linted)))

@@ -1,6 +1,7 @@
 -- A program has as many origins, and as many lists of nodes, as functions.
 use Rattle.std.proofs.Common.{◌≡◌, ℕ, zero, suc, ◌+◌, List, [], ◌∷◌, ◌++◌, length, replicate}
 use Rattle.std.proofs.Common.{refl, sym, ap, ◌∙◌, arith}
+use Rattle.std.proofs.Math.Nat.{zero-add}
 use Rattle.std.proofs.lemmas.List.{length-append, length-replicate}
 use Rattle.hy_core.specs.Numbered.{function_count}
 use Rattle.hy_core.specs.Syntax.{syntax_of}
@@ -24,7 +25,7 @@ functions_long k (f ∷ fs) =
     ∙ (λ i. length-replicate own k i + functions_long (suc k) fs i)
 
 count_both : (fs gs : List Function) → count_module (fs ++ gs) ≡ count_module fs + count_module gs
-count_both [] gs = refl
+count_both [] gs = sym (zero-add (count_module gs))
 count_both (f ∷ fs) gs =
     let rest = count_both fs gs in
     let own = count (syntax_of f.body) in

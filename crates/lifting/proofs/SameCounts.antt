@@ -73,13 +73,13 @@ module _ (limit : ℕ) where
   modules_same k (m ∷ ms) =
       λ i. functions_same k m.functions i
       ++ (ap (λ n. modules_origins (k + n) (map (renamed_module limit) ms))
-      (length-map (renamed_function limit) m.functions)
+      (length-map m.functions (renamed_function limit))
       ∙ modules_same (k + length m.functions) ms) i
 
   many_same : (ms : List Module) → function_count (map (renamed_module limit) ms) ≡ function_count ms
   many_same [] = refl
   many_same (m ∷ ms) =
-      λ i. length-map (renamed_function limit) m.functions i + many_same ms i
+      λ i. length-map m.functions (renamed_function limit) i + many_same ms i
 
   -- the origins in a program stay
   pub origins_same : (program : Program)
