@@ -1,6 +1,7 @@
 use crate::commands::{command_answer, program_answer};
 use crate::examples::{example_answer, text_in};
 use crate::fault::CaseFault;
+use crate::lifted::lifted_answer;
 use crate::notation::{number_in, push_text};
 use crate::pieces::push_indented;
 use crate::prefixes::prefixes_answer;
@@ -26,6 +27,8 @@ pub enum Subject {
     Prelude,
     /// The tables of the accepted program of some texts.
     Tables,
+    /// The functions of the lifted program of some texts.
+    Lifted,
     /// What the whole program does with the files of some texts.
     Programs,
     /// What it does with words.
@@ -89,6 +92,7 @@ fn answer_of_texts<R: Threads + AllocGlobal>(
         (Subject::Tokens, [text]) => tokens_answer(rt.alloc(), text.as_slice()),
         (Subject::Trees, [text]) => tree_answer(rt.alloc(), text.as_slice()),
         (Subject::Tables, _) => tables_answer(rt.alloc(), texts),
+        (Subject::Lifted, _) => lifted_answer(rt.alloc(), texts),
         (Subject::Programs, _) => program_answer(rt, settings, texts),
         _ => Err(CaseFault::Form),
     }

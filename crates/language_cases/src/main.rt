@@ -17,9 +17,11 @@
 #![tactic(auto)]
 
 mod answers;
+mod bodies;
 mod commands;
 mod examples;
 mod fault;
+mod lifted;
 mod notation;
 mod numbers;
 mod pieces;
@@ -38,7 +40,7 @@ use std::rt::Files;
 use std::thread::Threads;
 
 /// The files of cases, in the order in which they are answered.
-const FILES: [(&str, Subject); 12] = [
+const FILES: [(&str, Subject); 13] = [
     ("tokens.cases", Subject::Tokens),
     ("trees.cases", Subject::Trees),
     ("names.cases", Subject::Trees),
@@ -47,6 +49,7 @@ const FILES: [(&str, Subject); 12] = [
     ("prefixes.cases", Subject::Prefixes),
     ("prelude.cases", Subject::Prelude),
     ("tables.cases", Subject::Tables),
+    ("lifted.cases", Subject::Lifted),
     ("faults.cases", Subject::Programs),
     ("runs.cases", Subject::Programs),
     ("commands.cases", Subject::Commands),

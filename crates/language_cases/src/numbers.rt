@@ -43,7 +43,8 @@ fn push_exprs(out: &mut Vec<u8>, exprs: &[Expr]) -> Result<(), CaseFault> {
     Ok(())
 }
 
-fn push_number(out: &mut Vec<u8>, title: &str, number: u32) -> Result<(), CaseFault> {
+/// Appends a title and a number.
+pub fn push_number(out: &mut Vec<u8>, title: &str, number: u32) -> Result<(), CaseFault> {
     let text = format!(in *out.allocator(); "{title}{number}")?;
     out.extend_from_slice(text.as_bytes())?;
     Ok(())

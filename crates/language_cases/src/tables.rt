@@ -32,7 +32,7 @@ pub fn tables_answer(alloc: Global, texts: &[Text]) -> Result<Vec<u8>, CaseFault
 }
 
 /// The modules of these texts.
-fn modules_of(alloc: Global, texts: &[Text]) -> Result<Vec<Module>, CaseFault>
+pub fn modules_of(alloc: Global, texts: &[Text]) -> Result<Vec<Module>, CaseFault>
     ensures trees { IfOk result (λ modules. AllZip IsModuleText texts.now modules.items) }
     ensures texts { IfOk result (λ modules. AllByRecursion IsOfText modules.items) }
 {
@@ -56,7 +56,7 @@ fn module_of(alloc: Global, text: &[u8]) -> Result<Module, CaseFault>
 }
 
 /// The program of these modules, which has no fault, with its own numbers.
-fn linted_of(alloc: Global, modules: Vec<Module>) -> Result<Linted, CaseFault>
+pub fn linted_of(alloc: Global, modules: Vec<Module>) -> Result<Linted, CaseFault>
     requires { AllByRecursion IsOfText modules.items }
     ensures accepted { OnOk result (IsAccepted (with_prelude modules.items)) }
     ensures atoms { IfOk result

@@ -1,4 +1,4 @@
-use Rattle.std.proofs.Common.{rules, ◌≡◌}
+use Rattle.std.proofs.Common.{rules}
 use Rattle.language_cases.proofs.Names.{names_step}
 use Rattle.language_cases.proofs.pieces.names_in.Goals as goal
 

@@ -1,4 +1,4 @@
-use Rattle.std.proofs.Common.{◌≡◌, ◌∙◌, ap}
+use Rattle.std.proofs.Common.{◌∙◌, ap}
 use Rattle.hy_core.specs.Numbered.{program_sites}
 use Rattle.language_cases.proofs.tables.linted_of.Goals as goal
 
